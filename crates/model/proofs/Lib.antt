@@ -1,0 +1,7 @@
+pub mod Laws
+pub mod RoundTrip
+pub mod Flat
+pub mod Runs
+pub mod Open
+pub mod Build
+pub mod Cases

@@ -1,0 +1,100 @@
+-- Which site files are turned back: refusals 2, 3 and 4 over the records of a site. Refusal 1 is in Calls.
+use Prim.Native.Nat.{ℕ}
+use mathlib.Core.List.{List, [], _∷_}
+use mathlib.Core.Bool.{Bool, true, false, not, _&&_, _||_}
+use lib.Dec.{ltb, leb, eqb}
+use lib.ListN.{take, drop}
+use Rattle.octets.specs.Octets.{field, same}
+use Rattle.model.specs.Words.{if_then_else_, any, all, zeros, within, missing}
+use Rattle.model.specs.Numbers.{NONE, minutes-of-day, access-zone, access-point, access-rule, access-credential, authentication-factor, role-identifying, largest-disable, largest-threat}
+use Rattle.model.specs.Site.{kind, instance, pointOf, everywhere, locationKind, weekdays, location, fromMinute, toMinute, role, factorDisable, format, value, isAt, findIn}
+
+-- ── refusal 2: "a record's kind, field or spare byte out of range". "Enumerations and bounds given here are the field ranges; an
+-- instance is real unless NONE is allowed."
+
+-- "Unnamed bytes and bits are zero": the n bytes from an offset.
+unfoldable pub clear : ℕ → ℕ → List ℕ → Bool
+clear at n s = same (take n (drop at s)) (zeros n)
+
+abbrev pub real : ℕ → Bool
+real i = ltb i NONE
+
+abbrev pub realOrNone : ℕ → Bool
+realOrNone i = leb i NONE
+
+-- A zone: one flag; passback 0 to 2.
+unfoldable pub zoneInRange : List ℕ → Bool
+zoneInRange s = ltb (field 1 1 s) 2 && leb (field 2 1 s) 2 && clear 3 1 s && clear 20 12 s
+
+-- A point: five flags; mode 0 to 2; factors wanted 1 or 2; "Zone_To, Zone_From (NONE allowed, never the same zone: refusal 2)";
+-- threat level 0..100.
+unfoldable pub pointInRange : List ℕ → Bool
+pointInRange s =
+    ltb (field 1 1 s) 32 && leb (field 2 1 s) 2 && within 1 2 (field 3 1 s) && realOrNone (field 8 4 s)
+    && realOrNone (field 12 4 s) && (eqb (field 8 4 s) NONE || not (eqb (field 8 4 s) (field 12 4 s)))
+    && leb (field 16 1 s) largest-threat && clear 28 4 s
+
+-- A rule: four flags; seven days; "from ≤ to ≤ 1,440. Everywhere: 2 and 8 are zero."
+unfoldable pub ruleInRange : List ℕ → Bool
+ruleInRange s =
+    ltb (field 1 1 s) 16 && ltb (weekdays s) 128
+    && (if everywhere s then eqb (locationKind s) 0 && eqb (location s) 0 else within 1 2 (locationKind s) && real (location s))
+    && leb (fromMinute s) (toMinute s) && leb (toMinute s) minutes-of-day && clear 16 16 s
+
+-- A credential: five flags; disable 0 to 3; threat authority 0..100; rights numbers or NONE.
+unfoldable pub credentialInRange : List ℕ → Bool
+credentialInRange s =
+    ltb (field 1 1 s) 32 && leb (field 2 1 s) largest-disable && leb (field 3 1 s) largest-threat && clear 22 2 s
+    && realOrNone (field 24 4 s) && realOrNone (field 28 4 s)
+
+-- A factor: no flag; role 1 or 2; disable 0 to 5; format 2..255.
+unfoldable pub factorInRange : List ℕ → Bool
+factorInRange s =
+    clear 1 1 s && within 1 2 (role s) && leb (factorDisable s) 5 && leb 2 (format s) && clear 9 7 s && clear 24 8 s
+
+unfoldable pub inRange : List ℕ → Bool
+inRange s =
+    real (instance s)
+    && (if eqb (kind s) access-zone then zoneInRange s else
+    if eqb (kind s) access-point then pointInRange s else
+    if eqb (kind s) access-rule then ruleInRange s else
+    if eqb (kind s) access-credential then credentialInRange s else
+    if eqb (kind s) authentication-factor then factorInRange s else
+    false)
+
+-- ── refusal 3: "Twice the same: two zones, points or credentials of one instance; two identifying factors alike in format and value;
+-- two confirming ones alike in credential, format and value."
+
+unfoldable pub twinFactors : List ℕ → List ℕ → Bool
+twinFactors s t =
+    eqb (role s) (role t) && eqb (format s) (format t) && same (value s) (value t)
+    && (eqb (role s) role-identifying || eqb (instance s) (instance t))
+
+unfoldable pub twins : List ℕ → List ℕ → Bool
+twins s t =
+    eqb (kind s) (kind t)
+    && (if eqb (kind s) access-rule then false else
+    if eqb (kind s) authentication-factor then twinFactors s t else
+    eqb (instance s) (instance t))
+
+unfoldable pub twice : List (List ℕ) → Bool
+twice [] = false
+twice (s ∷ ss) = any (twins s) ss || twice ss
+
+-- ── refusal 4: "A point's zone, a factor's credential and, unless everywhere, a rule's location must exist. A missing rights number is
+-- ignored (002)."
+
+unfoldable pub exists : List (List ℕ) → ℕ → ℕ → Bool
+exists ss k i = not (missing (findIn (isAt k i) ss))
+
+unfoldable pub noneOrExists : List (List ℕ) → ℕ → ℕ → Bool
+noneOrExists ss k i = eqb i NONE || exists ss k i
+
+-- The location kinds 1 and 2 are the kinds of zone and point.
+unfoldable pub namesExist : List (List ℕ) → List ℕ → Bool
+namesExist ss s =
+    if eqb (kind s) access-point then
+    noneOrExists ss access-zone (pointOf s .«zone_to») && noneOrExists ss access-zone (pointOf s .«zone_from»)
+    else if eqb (kind s) access-rule then everywhere s || exists ss (locationKind s) (location s)
+    else if eqb (kind s) authentication-factor then exists ss access-credential (instance s)
+    else true

@@ -1,0 +1,72 @@
+-- What is proved over the definitions: each statement is a type, and proofs/ has a theorem of it. Each is about whole lists of runs from
+-- fresh, by `freshState` and `runJournal` themselves.
+use Prim.Native.Nat.{ℕ, suc, _/_, _<_}
+use mathlib.Core.Path.{_≡_}
+use mathlib.Core.List.{List, []}
+use mathlib.Core.Bool.{Bool, true, false, not}
+use lib.Dec.{eqb}
+use lib.IntN.{pos}
+use lib.ListN.{length, getD}
+use Rattle.model.specs.Words.{all}
+use Rattle.model.specs.Numbers as n
+use Rattle.model.specs.Site.{records}
+use Rattle.model.specs.Accept.{exists}
+use Rattle.model.specs.State.{panel, wellFormed}
+use Rattle.model.specs.Entry.{entryOf, entries, operationOf, answerBytes}
+use Rattle.model.specs.Step.{noAnswer}
+use Rattle.model.specs.Calls.{number, isWorked, freshState}
+use Rattle.model.specs.Lists.{Run, runOn, stateAfter, returns, answersIn, eventIn, refusalIn, credentialIn, History, begun, ended, firstOf}
+use Rattle.model.specs.Tally.{standing, tallyOf, countOf}
+use Rattle.model.specs.Part.{Part, SelfContained, partRecords, partEntries, partAnswers, partState}
+use Rattle.model.specs.Earned.{Earned}
+use Rattle.model.specs.declared.Returned.{Returned}
+use Rattle.model.specs.declared.Operation.the-variants.{Factor}
+
+-- Demand 3, the count: "every zone's count is T less the smaller of zero and T's lowest standing".
+unfoldable pub Count : Type 0
+Count = (h : History) (z : ℕ) → exists (records (h .site)) n.access-zone z ≡ true → pos (countOf z h) ≡ standing (tallyOf z h)
+
+-- Demand 3, the part: "Records, in file order, and entries, in order, are the same lists. Then the answers to the part's entries, in
+-- order, and the state records of its records, in file order, are equal byte for byte."
+unfoldable pub Isolation : Type 0
+Isolation =
+    (P : Part) (g h : History) → SelfContained P g → SelfContained P h → partRecords P g ≡ partRecords P h →
+    partEntries P g ≡ partEntries P h → (partAnswers P g ≡ partAnswers P h) × (partState P g ≡ partState P h)
+
+-- A panel never turns back its own state: after every list from fresh the state is well formed, and no run of the list returns 6.
+abbrev pub notStateForm : Returned → Bool
+notStateForm r = not (eqb (number r) 6)
+
+unfoldable pub WellFormed : Type 0
+WellFormed =
+    (h : History) → (wellFormed (h .site) (ended h) ≡ true) × (all notStateForm (returns (h .site) (begun h) (h .runs)) ≡ true)
+
+-- "what is turned back changes nothing": a call that is turned back leaves every buffer as it was.
+unfoldable pub TurnedBack : Type 0
+TurnedBack =
+    (site state : List ℕ) (r : Run) →
+    (isWorked (freshState site state .returned) ≡ false → freshState site state .state ≡ state)
+    × (isWorked (runOn site state r .returned) ≡ false →
+    (runOn site state r .state ≡ state) × (runOn site state r .answers ≡ r .answers))
+
+-- "a bad entry gets its refusal in its own answer and changes no state": the state that the next entry finds is the state that the
+-- refused entry found, and "a refusing answer is zero but for byte 3 and credential NONE".
+unfoldable pub Refused : Type 0
+Refused =
+    (site state : List ℕ) (r : Run) (i : ℕ) → isWorked (runOn site state r .returned) ≡ true →
+    i < length (r .journal) / n.entry-size →
+    eqb (refusalIn (getD (answersIn (runOn site state r .answers)) i [])) n.not-refused ≡ false →
+    (runOn site state (firstOf (suc i) r) .state ≡ runOn site state (firstOf i r) .state)
+    × (getD (answersIn (runOn site state r .answers)) i []
+    ≡ answerBytes (noAnswer (refusalIn (getD (answersIn (runOn site state r .answers)) i [])) 0 0))
+
+-- A grant is earned: after every list from fresh, whenever run r answers its entry i with event 1, the entry is a factor read and, in
+-- the state that it found, all of `Earned` held.
+unfoldable pub GrantEarned : Type 0
+GrantEarned =
+    (h : History) (r : Run) (i : ℕ) → isWorked (runOn (h .site) (ended h) r .returned) ≡ true →
+    i < length (r .journal) / n.entry-size →
+    eventIn (getD (answersIn (runOn (h .site) (ended h) r .answers)) i []) ≡ n.granted →
+    (operationOf (entryOf (getD (entries (r .journal)) i []) .operation) ≡ Factor)
+    × Earned (panel (h .site) (runOn (h .site) (ended h) (firstOf i r) .state)) (entryOf (getD (entries (r .journal)) i []))
+    (credentialIn (getD (answersIn (runOn (h .site) (ended h) r .answers)) i []))

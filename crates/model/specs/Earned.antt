@@ -1,0 +1,58 @@
+-- A grant is earned (beyond the paper): the security officer's list of what held when event 1 was answered.
+use Prim.Native.Nat.{ℕ, _≤_, _<_}
+use mathlib.Core.Path.{_≡_}
+use mathlib.Core.List.{List}
+use mathlib.Core.Bool.{Bool, true, false, _&&_}
+use lib.Dec.{eqb}
+use Rattle.octets.specs.Octets.{same}
+use Rattle.model.specs.Words.{if_then_else_, any}
+use Rattle.model.specs.Numbers as n
+use Rattle.model.specs.Site.{instance, factorDisable}
+use Rattle.model.specs.State.{Pair, Panel, sites, find}
+use Rattle.model.specs.Checks.{stillLocked, waiting, overdue, identifying, confirming, inactive, passbackViolated, atLowerLimit, atUpperLimit}
+use Rattle.model.specs.Step.{factorRead, viewOf, rulesAt}
+use Rattle.model.specs.declared.View.{View}
+use Rattle.model.specs.declared.Verdict.{Verdict}
+use Rattle.model.specs.declared.Entry.{Entry}
+
+-- Asked of every credential but a master-exempt one.
+pub record Authorized (v : View) (rules : Verdict) (e : Entry) : Type 0 where
+  -- The point does not deny all, and the credential's authority reaches the threat level.
+  pub not-deny-all : eqb (v .point .mode) n.mode-deny-all ≡ false
+  pub authority : v .point .«threat_level» ≤ v .credential .«threat_authority»
+  -- In AUTHORIZE a positive rule of its rights fits in place and time, and no negative one does.
+  pub positive : v .point .mode ≡ n.mode-authorize → rules .«positive_fits» ≡ true
+  pub no-negative : v .point .mode ≡ n.mode-authorize → rules .«negative_fits» ≡ false
+  -- No hard passback holds, and, unless exempt, the limits leave room.
+  pub no-hard-passback : passbackViolated v e && eqb (v .«zone_to» .passback) n.passback-hard ≡ false
+  pub above-lower-limit : atLowerLimit v ≡ false
+  pub below-upper-limit : atUpperLimit v ≡ false
+
+-- The view v that the entry e had, the rules asked, the factor record f that was found, and the credential c that the answer names.
+pub record EarnedAt (v : View) (rules : Verdict) (ss : List (List ℕ)) (f : List ℕ) (e : Entry) (c : ℕ) : Type 0 where
+  -- The point is in service and not locked, or its lock has just been relinquished.
+  pub in-service : v .point .«out_of_service» ≡ false
+  pub not-locked : stillLocked v e ≡ false
+  -- A factor of the named credential matched, it is in the site, and it is not disabled.
+  pub in-site : any (same f) ss ≡ true
+  pub matched : (if waiting v then confirming c (e .argument) (e .value) f else identifying (e .argument) (e .value) f) ≡ true
+  pub of-credential : instance f ≡ c
+  pub factor-enabled : factorDisable f ≡ 0
+  -- Where two factors are wanted it is the confirming one of the credential waited for, in time.
+  pub confirmed : v .point .«factors_wanted» ≡ n.two-factors → v .«point_state» .«waiting_credential» ≡ c
+  pub in-time : overdue v e ≡ false
+  -- The credential is active, unexpired, not disabled, has days and uses left and is not absent too long.
+  pub active : v .credential .activation ≤ e .time
+  pub unexpired : e .time ≤ v .credential .expiry
+  pub credential-enabled : v .«credential_state» .disable ≡ 0
+  pub days-left : 0 < v .«credential_state» .days
+  pub uses-left : 0 < v .«credential_state» .uses
+  pub not-absent : inactive (v .«credential_state» .«last_use») (v .credential .«absentee_days») (e .time) ≡ false
+  -- Unless it is master-exempt, it is authorized.
+  pub authorized : v .credential .master ≡ false → Authorized v rules e
+
+-- The same of an entry at a panel.
+unfoldable pub Earned : Panel → Entry → ℕ → Type 0
+Earned ps e c =
+    EarnedAt (viewOf ps e (find n.access-point (e .instance) ps)) (rulesAt ps e (find n.access-point (e .instance) ps)) (sites ps)
+    (factorRead ps e (find n.access-point (e .instance) ps)) e c

@@ -1,0 +1,15 @@
+pub mod Words
+pub mod Numbers
+pub mod Site
+pub mod Accept
+pub mod State
+pub mod Entry
+pub mod Checks
+pub mod Effects
+pub mod Step
+pub mod Calls
+pub mod Lists
+pub mod Tally
+pub mod Part
+pub mod Earned
+pub mod Demands

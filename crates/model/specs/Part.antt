@@ -1,0 +1,106 @@
+-- "The self-contained part (demand 3)".
+use Prim.Native.Nat.{ℕ}
+use mathlib.Core.Path.{_≡_}
+use mathlib.Core.List.{List, map}
+use mathlib.Core.Bool.{Bool, true, false, not, _&&_, _||_, Bool·beq}
+use lib.Dec.{eqb}
+use Rattle.model.specs.Words.{if_then_else_, keep, all, missing}
+use Rattle.model.specs.Numbers as n
+use Rattle.model.specs.Numbers.{NONE}
+use Rattle.model.specs.Site.{records, kind, instance, pointOf, credentialOf, findIn}
+use Rattle.model.specs.State.{Pair, Panel, panel}
+use Rattle.model.specs.Entry.{entryOf, operationOf, objectKind}
+use Rattle.model.specs.Checks.{identifying}
+use Rattle.model.specs.Lists.{Worked, refusalIn, History, ended, worked}
+use Rattle.model.specs.declared.Entry.{Entry}
+use Rattle.model.specs.declared.Operation.{Operation}
+use Rattle.model.specs.declared.Operation.the-variants.{Factor, SetCount, AdjustCount, SetDisable, SetService, Unknown}
+
+-- "A part is a set of zones, points, credentials and rights numbers".
+pub record Part : Type 0 where
+  pub zones : ℕ → Bool
+  pub points : ℕ → Bool
+  pub credentials : ℕ → Bool
+  pub rights : ℕ → Bool
+
+-- "with the rules and factors under them": a rule is under its rights number, a factor under its credential.
+unfoldable pub member : Part → ℕ → ℕ → Bool
+member P k i =
+    if eqb k n.access-zone then P .zones i else
+    if eqb k n.access-point then P .points i else
+    if eqb k n.access-rule then P .rights i else
+    if eqb k n.access-credential || eqb k n.authentication-factor then P .credentials i else
+    false
+
+unfoldable pub holds : Part → List ℕ → Bool
+holds P s = member P (kind s) (instance s)
+
+-- "an entry belongs by its instance under its operation, unknown operations to none"
+unfoldable pub belongs : Part → Entry → Bool
+belongs P e = member P (objectKind (operationOf (e .operation))) (e .instance)
+
+-- ── "In both sites: no point's zone is across the border; rights that a credential of the part names are in it."
+
+-- What a record names, NONE or on a side of the border: `side` is true for the part.
+unfoldable pub onSide : Part → ℕ → ℕ → Bool → Bool
+onSide P k i side = eqb i NONE || Bool·beq (member P k i) side
+
+unfoldable pub pointInside : Part → List ℕ → Bool
+pointInside P s =
+    onSide P n.access-zone (pointOf s .«zone_to») (holds P s) && onSide P n.access-zone (pointOf s .«zone_from») (holds P s)
+
+unfoldable pub credentialInside : Part → List ℕ → Bool
+credentialInside P s =
+    not (holds P s)
+    || onSide P n.access-rule (credentialOf s .«first_rights») true && onSide P n.access-rule (credentialOf s .«second_rights») true
+
+unfoldable pub inside : Part → List ℕ → Bool
+inside P s =
+    if eqb (kind s) n.access-point then pointInside P s else
+    if eqb (kind s) n.access-credential then credentialInside P s else
+    true
+
+-- ── "In both lists: no factor read names, as identifying factor, a credential across the border." Asked of reads that are not refused.
+
+unfoldable pub identified : List (List ℕ) → Entry → List ℕ
+identified ss e = findIn (identifying (e .argument) (e .value)) ss
+
+unfoldable pub identifiedInside : Part → List (List ℕ) → Entry → Bool
+identifiedInside P ss e =
+    missing (identified ss e)
+    || Bool·beq (member P n.access-credential (instance (identified ss e))) (member P n.access-point (e .instance))
+
+abbrev pub readInsideAs : Operation → Part → List (List ℕ) → Entry → Bool
+readInsideAs Factor P ss e = identifiedInside P ss e
+readInsideAs SetCount P ss e = true
+readInsideAs AdjustCount P ss e = true
+readInsideAs SetDisable P ss e = true
+readInsideAs SetService P ss e = true
+readInsideAs Unknown P ss e = true
+
+unfoldable pub readInside : Part → List (List ℕ) → Worked → Bool
+readInside P ss w =
+    not (eqb (refusalIn (w .answer)) n.not-refused)
+    || readInsideAs (operationOf (entryOf (w .entry) .operation)) P ss (entryOf (w .entry))
+
+-- The premises on one list.
+pub record SelfContained (P : Part) (h : History) : Type 0 where
+  pub site : all (inside P) (records (h .site)) ≡ true
+  pub reads : all (readInside P (records (h .site))) (worked h) ≡ true
+
+-- ── the part's records in file order, its entries and their answers in order, and the state records of its records in file order
+
+unfoldable pub partRecords : Part → History → List (List ℕ)
+partRecords P h = keep (holds P) (records (h .site))
+
+unfoldable pub partWorked : Part → History → List Worked
+partWorked P h = keep (λ (w : Worked). belongs P (entryOf (w .entry))) (worked h)
+
+unfoldable pub partEntries : Part → History → List (List ℕ)
+partEntries P h = map (λ (w : Worked). w .entry) (partWorked P h)
+
+unfoldable pub partAnswers : Part → History → List (List ℕ)
+partAnswers P h = map (λ (w : Worked). w .answer) (partWorked P h)
+
+unfoldable pub partState : Part → History → List (List ℕ)
+partState P h = map (λ (x : Pair). x .1) (keep (λ (x : Pair). holds P (x .0)) (panel (h .site) (ended h)))
