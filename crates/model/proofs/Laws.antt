@@ -21,6 +21,14 @@ pub and-right : (a b : Bool) → a && b ≡ true → b ≡ true
 and-right true b e = e
 and-right false b e = cc
 
+pub or-left : (a b : Bool) → a || b ≡ false → a ≡ false
+or-left true b h = h
+or-left false b h = refl
+
+pub or-right : (a b : Bool) → a || b ≡ false → b ≡ false
+or-right true b h = cc
+or-right false b h = h
+
 -- ── what a test on site records keeps of the panel
 
 abbrev pub only : (List ℕ → Bool) → Panel → Panel

@@ -2,6 +2,10 @@ pub mod Laws
 pub mod RoundTrip
 pub mod Flat
 pub mod Runs
+pub mod Entries
+pub mod Untouched
+pub mod Whole
+pub mod Counted
 pub mod Open
 pub mod Build
 pub mod Cases

@@ -6,7 +6,7 @@ use mathlib.Core.List.{List, [], _∷_, _++_, map, map-append, flatten}
 use mathlib.Core.Bool.{Bool, true, false, not, _&&_, _||_}
 use lib.Dec.{ltb, eqb}
 use lib.ListN.{length, length-map}
-use borrow.Author.Tests.{eqb-true, not-true}
+use borrow.Author.Tests.{eqb-true, not-false}
 use Rattle.octets.specs.Octets.{groups}
 use Rattle.octets.proofs.Groups.{length-groups}
 use Rattle.model.specs.Words.{if_then_else_, all}
@@ -17,6 +17,7 @@ use Rattle.model.specs.Entry.{entryOf, entries, answerBytes}
 use Rattle.model.specs.Step.{apply, entryOutcome, after, answers}
 use Rattle.model.specs.Calls.{number, isWorked, checkSite, freshReturned, freshState, runReturned, runJournal}
 use Rattle.model.specs.Lists.{Run, runOn, stateAfter, Worked, withAnswers, answersIn, workedBy, workedIn, History, begun, ended, worked}
+use Rattle.model.proofs.Laws.{or-left}
 use Rattle.model.proofs.RoundTrip.{length-answer}
 use Rattle.model.proofs.Flat.{Sized, length-flatten, groups-flatten, panel-back, length-back, freshPanel, panel-fresh, length-fresh}
 use Rattle.model.specs.declared.Entry.{Entry}
@@ -27,7 +28,7 @@ use Rattle.model.specs.declared.Returned.the-variants.{WorkedThrough, Si
 -- ── what an accepted site holds
 
 -- A chain of checks that comes to WorkedThrough passed its first check.
-passed-check : (c : Bool) (x y : Returned) → isWorked x ≡ false → (if c then x else y) ≡ WorkedThrough → (c ≡ false) × (y ≡ WorkedThrough)
+pub passed-check : (c : Bool) (x y : Returned) → isWorked x ≡ false → (if c then x else y) ≡ WorkedThrough → (c ≡ false) × (y ≡ WorkedThrough)
 unfolding isWorked
 passed-check true x y w h = let z : true ≡ false = rw h at w in (z, cc)
 passed-check false x y w h = (refl, h)
@@ -46,22 +47,14 @@ site-accepted site h =
     let t = passed-check (twice (records site)) SiteTwice _ refl (r .1) in
     let m = passed-check (not (all (namesExist (records site)) (records site))) SiteMissing _ refl (t .1) in
     record {
-      whole-records = eqb-true (length site % 32) 0 (first (eqb (length site % 32) 0) _ (l .0));
-      in-range = back (all inRange (records site)) (r .0);
+      whole-records = eqb-true (length site % 32) 0 (not-false _ (or-left (not (eqb (length site % 32) 0)) _ (l .0)));
+      in-range = not-false (all inRange (records site)) (r .0);
       not-twice = t .0;
-      names-exist = back (all (namesExist (records site)) (records site)) (m .0);
+      names-exist = not-false (all (namesExist (records site)) (records site)) (m .0);
     }
-  where
-    first : (a b : Bool) → not a || b ≡ false → a ≡ true
-    first true b h = refl
-    first false b h = sym h
-
-    back : (a : Bool) → not a ≡ false → a ≡ true
-    back true h = refl
-    back false h = sym h
 
 -- What is worked through returned no refusal.
-worked-through : (r : Returned) → isWorked r ≡ true → r ≡ WorkedThrough
+pub worked-through : (r : Returned) → isWorked r ≡ true → r ≡ WorkedThrough
 unfolding isWorked
 worked-through WorkedThrough h = refl
 worked-through SiteLength h = cc
@@ -84,7 +77,7 @@ site-worked site state h = go (isWorked (checkSite site)) refl h
 
 -- ── lists of entries, one after the other
 
-after-append : (es fs : List Entry) (ps : Panel) → after ps (es ++ fs) ≡ after (after ps es) fs
+pub after-append : (es fs : List Entry) (ps : Panel) → after ps (es ++ fs) ≡ after (after ps es) fs
 unfolding after
 after-append [] fs ps = refl
 after-append (e ∷ es) fs ps = after-append es fs (apply (entryOutcome ps e) ps)
