@@ -212,3 +212,13 @@ all-write t on k i b ps h a = go (on && not (eqb i NONE))
     go : (c : Bool) → all t (if c then store k i b ps else ps) ≡ true
     go true = all-store t k i b h ps a
     go false = a
+
+-- what is found among site records passes the test
+pub found-in : (q : List ℕ → Bool) (ss : List (List ℕ)) → missing (findIn q ss) ≡ false → q (findIn q ss) ≡ true
+found-in q [] g = cc
+found-in q (s ∷ ss) g = go (q s) refl g (found-in q ss)
+  where
+    go : (c : Bool) → q s ≡ c → missing (if c then s else findIn q ss) ≡ false →
+        (missing (findIn q ss) ≡ false → q (findIn q ss) ≡ true) → q (if c then s else findIn q ss) ≡ true
+    go true e g ih = e
+    go false e g ih = ih g

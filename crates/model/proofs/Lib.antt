@@ -3,9 +3,16 @@ pub mod RoundTrip
 pub mod Flat
 pub mod Runs
 pub mod Entries
-pub mod Untouched
 pub mod Whole
 pub mod Counted
+pub mod Border
+pub mod Isolated
+pub mod Isolation
+pub mod Well
+pub mod WellStep
+pub mod KeptWell
+pub mod Untouched
+pub mod Granted
 pub mod Open
 pub mod Build
 pub mod Cases

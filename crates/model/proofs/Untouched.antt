@@ -85,6 +85,7 @@ refused site state r i w h q =
     let a = answer-at site state r w i h in
     let b : eqb (entryOutcome ps e .answer .refusal) 0 ≡ false = rw (a, refusal-back (entryOutcome ps e .answer)) at q in
     let o = refusal-entry ps e b in
-    let p : after (panel site state) (take (suc i) es) ≡ ps = after-next es i (entryOf []) (panel site state) (omega (arith, n)) ∙ ap (λ x. apply (entryOutcome ps x) ps) (List·getD-map entryOf (entries (r .journal)) i []) ∙ ap (λ x. apply x ps) o ∙ apply-refuse (entryOutcome ps e .answer .refusal) ps in
-    (state-at site state r w (suc i) h ∙ ap stateOf p ∙ sym (state-at site state r w i (omega arith)),
-    a ∙ ap (λ (x : Outcome). answerBytes (x .answer)) o ∙ ap (λ k. answerBytes (noAnswer k 0 0)) (sym (ap refusalIn a ∙ refusal-back (entryOutcome ps e .answer))))
+    let p : after (panel site state) (take (suc i) es) ≡ ps = after-next es i (entryOf []) (panel site state) (omega (arith, n)) ∙ ap (λ x. apply (entryOutcome ps x) ps) (List·getD-map entryOf (entries (r .journal)) i []) ∙ ap (λ x. apply x ps) o ∙ apply-refuse (entryOutcome ps e .answer .refusal) ps in (
+      state-at site state r w (suc i) h ∙ ap stateOf p ∙ sym (state-at site state r w i (omega arith)),
+      a ∙ ap (λ (x : Outcome). answerBytes (x .answer)) o ∙ ap (λ k. answerBytes (noAnswer k 0 0)) (sym (ap refusalIn a ∙ refusal-back (entryOutcome ps e .answer))),
+    )

@@ -1,0 +1,335 @@
+-- Where the records of a panel are well formed, they are so after every entry.
+use Prim.Native.Nat.{ℕ}
+use mathlib.Core.Path.{_≡_, refl, _∙_, ap}
+use mathlib.Core.List.{List, [], _∷_}
+use mathlib.Core.Bool.{Bool, true, false, not, _&&_, _||_}
+use lib.Dec.{ltb, leb, eqb}
+use borrow.Author.Tests.{eqb-true, not-true, leb-false, lt-ltb}
+use Rattle.octets.specs.Octets.{field}
+use Rattle.model.specs.Words.{if_then_else_, all, missing}
+use Rattle.model.specs.Numbers as n
+use Rattle.model.specs.Numbers.{NONE}
+use Rattle.model.specs.Site.{pointOf, isAt, findIn}
+use Rattle.model.specs.Accept.{exists, noneOrExists, namesExist}
+use Rattle.model.specs.State.{Pair, Panel, sites, find, store, write, zoneBytes, pointStateOf, pointBytes, credentialStateOf, credentialBytes, failuresWell, recordWell}
+use Rattle.model.specs.Entry.{operationOf, objectKind, inForm}
+use Rattle.model.specs.Checks.{relinquished, stillLocked, authenticationOf, intoZone, eventOf}
+use Rattle.model.specs.Effects.{isFailure, failuresBefore, failuresWith, locksOut, pointAfter, zoneAfter, credentialAfter, outcomeOf}
+use Rattle.model.specs.Step.{noPoint, noCredential, unchanged, refuse, factorRead, numberRead, credentialAt, viewOf, rulesAt, factorOutcome, countOutcome, adjusted, adjustOutcome, disableAfter, disableOutcome, locks, serviceAfter, serviceOutcome, workedOutcome, outcomeAs, entryOutcome, apply, after}
+use Rattle.model.proofs.Laws.{and-left, and-right, or-right, find-in, all-write, sites-write, sites-apply}
+use Rattle.model.proofs.Border.{kind-at}
+use Rattle.model.proofs.Well.{none-fits, exists-fits, if-fits, no-failures, if-fails, PointSound, CredentialSound, fresh-point, fresh-credential, zone-well, point-well, credential-well, point-found, credential-found, credential-sought, to-fits, number-fits}
+use Rattle.model.specs.declared.PointState.{PointState}
+use Rattle.model.specs.declared.View.{View}
+use Rattle.model.specs.declared.Verdict.{Verdict}
+use Rattle.model.specs.declared.Entry.{Entry}
+use Rattle.model.specs.declared.Answer.{Answer}
+use Rattle.model.specs.declared.Outcome.{Outcome}
+use Rattle.model.specs.declared.Operation.{Operation}
+use Rattle.model.specs.declared.Operation.the-variants.{Factor, SetCount, AdjustCount, SetDisable, SetService, Unknown}
+
+-- ── the states that a factor read leaves, for every view and event
+
+-- The view has sound states, and its references are NONE or exist.
+record Seen (ss : List (List ℕ)) (v : View) : Type 0 where
+  point : PointSound ss (v .point .«most_failures») (v .«point_state»)
+  to : noneOrExists ss n.access-zone (v .point .«zone_to») ≡ true
+  number : noneOrExists ss n.access-credential (v .number) ≡ true
+  credential : CredentialSound ss (v .«credential_state»)
+
+-- A point that is still locked answers 161.
+locked-event : (v : View) (rules : Verdict) (e : Entry) → stillLocked v e ≡ true → eventOf v rules e ≡ n.denied-lockout
+unfolding eventOf authenticationOf
+locked-event v rules e h = rw h
+
+-- The events that are failures where a most is set.
+failing : ℕ → Bool
+failing x =
+    eqb x n.denied-unknown-credential || eqb x n.denied-authentication-factor-timeout
+    || eqb x n.denied-incorrect-authentication-factor || eqb x n.denied-authentication-factor-error
+
+-- An event that is a failure is not one that is none.
+not-failing : (k x : ℕ) → failing k ≡ false → failing x ≡ true → eqb x k ≡ false
+not-failing k x a b = go (eqb x k) refl
+  where
+    go : (c : Bool) → eqb x k ≡ c → c ≡ false
+    go true e = cc (eqb-true x k e)
+    go false e = refl
+
+module _ (ss : List (List ℕ)) (v : View) (e : Entry) (x : ℕ) (h : Seen ss v) where
+  most : ℕ
+  most = v .point .«most_failures»
+
+  -- A point that is locked afterwards waits for nobody: a failure locked it, or it was locked before.
+  free-after : (stillLocked v e ≡ true → x ≡ n.denied-lockout) →
+      not (pointAfter v e x .locked) || eqb (pointAfter v e x .«waiting_credential») NONE ≡ true
+  unfolding pointAfter locksOut isFailure stillLocked failing
+  free-after l = go (locksOut v e x) (stillLocked v e) refl refl
+    where
+      go : (c d : Bool) → locksOut v e x ≡ c → stillLocked v e ≡ d →
+          not (c || d)
+          || eqb
+          (if eqb x n.no-event then v .number else
+          if eqb x n.denied-lockout then v .«point_state» .«waiting_credential» else NONE) NONE ≡ true
+      go true d o s =
+          let f : isFailure v x ≡ true = search and-left in
+          let g : failing x ≡ true = and-right (not (eqb (v .point .«most_failures») 0)) (failing x) f in
+          rw (not-failing n.no-event x refl g, not-failing n.denied-lockout x refl g)
+      go false true o s =
+          let k : v .«point_state» .locked ≡ true = search and-left in
+          rw (l s) (rw k at (h .point .free))
+      go false false o s = refl
+
+  -- The failures so far are below the most.
+  fails-before : failuresWell (failuresBefore v e) most ≡ true
+  unfolding failuresBefore most
+  fails-before =
+      if-fails (relinquished v e) most 0 (v .«point_state» .failures) (λ r. no-failures most) (λ r. h .point .fails)
+
+  -- A failure that does not lock the point leaves its failures below the most.
+  fails-with : locksOut v e x ≡ false → isFailure v x ≡ true → failuresWell (failuresWith v e) most ≡ true
+  unfolding locksOut isFailure failuresWell most
+  fails-with o f =
+      let m : eqb most 0 ≡ false = not-true (eqb most 0) (search and-left) in
+      let b : leb most (failuresWith v e) ≡ false = rw f at o in
+      rw m (lt-ltb (failuresWith v e) most (leb-false most (failuresWith v e) b))
+
+  -- The failures afterwards are below the most.
+  fails-after : failuresWell (pointAfter v e x .failures) most ≡ true
+  unfolding pointAfter
+  fails-after =
+      if-fails (eqb x n.granted || locksOut v e x) most 0 _ (λ g. no-failures most)
+      (λ g. if-fails (isFailure v x) most (failuresWith v e) (failuresBefore v e)
+      (fails-with (or-right (eqb x n.granted) (locksOut v e x) g)) (λ f. fails-before))
+
+  -- The point's state afterwards is sound.
+  point-after : (stillLocked v e ≡ true → x ≡ n.denied-lockout) → PointSound ss (v .point .«most_failures») (pointAfter v e x)
+  unfolding pointAfter most
+  point-after l =
+      record {
+        waits =
+            if-fits (eqb x n.no-event) ss n.access-credential (v .number) _ (h .number)
+            (if-fits (eqb x n.denied-lockout) ss n.access-credential (v .«point_state» .«waiting_credential») NONE (h .point .waits)
+            (none-fits ss n.access-credential));
+        free = free-after l;
+        fails = fails-after;
+      }
+
+  -- The credential's state afterwards is sound.
+  credential-after : noneOrExists ss n.access-point (e .instance) ≡ true → CredentialSound ss (credentialAfter v e x)
+  unfolding credentialAfter zoneAfter
+  credential-after p =
+      record {
+        disabled = h .credential .disabled;
+        inside =
+            if-fits (not (eqb x n.granted)) ss n.access-zone (v .«credential_state» .zone) _ (h .credential .inside)
+            (if-fits (intoZone v) ss n.access-zone (v .point .«zone_to») _ (h .to)
+            (if-fits (not (eqb (v .point .«zone_from») NONE)) ss n.access-zone NONE (v .«credential_state» .zone)
+            (none-fits ss n.access-zone) (h .credential .inside)));
+        seen = p;
+      }
+
+-- ── outcomes that leave sound states
+
+-- The point's state is sound for the most failures of the point that the outcome names.
+record Sound (ss : List (List ℕ)) (o : Outcome) : Type 0 where
+  point : PointSound ss (pointOf (findIn (isAt n.access-point (o .point .instance)) ss) .«most_failures») (o .point .state)
+  credential : CredentialSound ss (o .credential .state)
+
+-- Either of two such outcomes is one.
+sound-if : (c : Bool) (ss : List (List ℕ)) (o u : Outcome) → Sound ss o → Sound ss u → Sound ss (if c then o else u)
+sound-if true ss o u h g = h
+sound-if false ss o u h g = g
+
+-- The credential's state that stands where none is written.
+unwritten : (ss : List (List ℕ)) → CredentialSound ss (noCredential .state)
+unfolding noCredential field
+unwritten ss = fresh-credential ss [] refl
+
+-- An outcome that writes nothing.
+sound-unchanged : (ss : List (List ℕ)) (a : Answer) → Sound ss (unchanged a)
+unfolding unchanged noPoint
+sound-unchanged ss a = record { point = fresh-point ss _; credential = unwritten ss }
+
+-- An outcome that writes a count.
+sound-count : (ss : List (List ℕ)) (e : Entry) (counted : ℕ) → Sound ss (countOutcome e counted)
+unfolding countOutcome noPoint
+sound-count ss e counted = record { point = fresh-point ss _; credential = unwritten ss }
+
+-- An adjustment of a count.
+sound-adjust : (ss : List (List ℕ)) (e : Entry) (counted : ℕ) → Sound ss (adjustOutcome e counted)
+unfolding adjustOutcome refuse
+sound-adjust ss e counted =
+    sound-if (ltb n.largest-count (adjusted counted (e .amount))) ss (refuse n.refused-count)
+    (countOutcome e (adjusted counted (e .amount))) (sound-unchanged ss _) (sound-count ss e (adjusted counted (e .amount)))
+
+-- The outcome of a factor read at a point that exists.
+sound-outcome : (ss : List (List ℕ)) (v : View) (e : Entry) (x : ℕ) → Seen ss v →
+    (stillLocked v e ≡ true → x ≡ n.denied-lockout) → v .point ≡ pointOf (findIn (isAt n.access-point (e .instance)) ss) →
+    noneOrExists ss n.access-point (e .instance) ≡ true → Sound ss (outcomeOf v e x)
+unfolding outcomeOf
+sound-outcome ss v e x h l p i =
+    record { point = rw (← p) (point-after ss v e x h l); credential = credential-after ss v e x h i }
+
+-- A point that operation 5 locks or unlocks has a sound state afterwards.
+service-after : (ss : List (List ℕ)) (most : ℕ) (e : Entry) (p : PointState) → PointSound ss most p →
+    PointSound ss most (serviceAfter e p)
+unfolding serviceAfter
+service-after ss most e p h =
+    record {
+      waits =
+          if-fits (locks e) ss n.access-credential NONE (p .«waiting_credential») (none-fits ss n.access-credential) (h .waits);
+      free = go (locks e);
+      fails = if-fails (locks e) most (p .failures) 0 (λ l. h .fails) (λ l. no-failures most);
+    }
+  where
+    go : (c : Bool) → not c || eqb (if c then NONE else p .«waiting_credential») NONE ≡ true
+    go true = refl
+    go false = refl
+
+-- ── the outcome of an entry at a panel of well-formed records
+
+module _ (ss : List (List ℕ)) (ps : Panel) (of-site : sites ps ≡ ss) (well : all (recordWell ss) ps ≡ true) (e : Entry) where
+  -- The site record of what is found.
+  found-site : (k i : ℕ) → find k i ps .0 ≡ findIn (isAt k i) ss
+  unfolding find
+  found-site k i = rw (← of-site) (find-in (isAt k i) ps)
+
+  -- What is found exists.
+  found-fits : (k i : ℕ) → missing (find k i ps .0) ≡ false → noneOrExists ss k i ≡ true
+  unfolding exists
+  found-fits k i g = exists-fits ss k i (rw (← found-site k i, g))
+
+  -- Operation 4.
+  sound-disable : inForm SetDisable e ≡ true →
+      Sound ss (disableOutcome e (credentialStateOf (find n.access-credential (e .instance) ps .1)))
+  unfolding disableOutcome noPoint disableAfter inForm
+  sound-disable f =
+      let c = credential-found ss ps well (e .instance) in
+      record {
+        point = fresh-point ss _;
+        credential = record { disabled = search and-left; inside = c .inside; seen = c .seen };
+      }
+
+  -- Operation 5.
+  sound-service : (counted : ℕ) → Sound ss (serviceOutcome e (pointStateOf (find n.access-point (e .instance) ps .1)) counted)
+  unfolding serviceOutcome
+  sound-service counted =
+      record {
+        point =
+            rw (← found-site n.access-point (e .instance)) (service-after ss _ e _ (point-found ss ps well (e .instance)));
+        credential = unwritten ss;
+      }
+
+  module _ (names : all (namesExist ss) ss ≡ true) where
+    -- The view of a factor read.
+    view-seen : Seen ss (viewOf ps e (find n.access-point (e .instance) ps))
+    unfolding viewOf numberRead factorRead credentialAt
+    view-seen =
+        record {
+          point = point-found ss ps well (e .instance);
+          to = rw (found-site n.access-point (e .instance)) (to-fits ss names (e .instance));
+          number = rw of-site (number-fits ss names e _ (point-found ss ps well (e .instance) .waits));
+          credential = credential-sought ss ps well _;
+        }
+
+    -- Operation 1.
+    sound-factor : missing (find n.access-point (e .instance) ps .0) ≡ false →
+        Sound ss (factorOutcome ps e (find n.access-point (e .instance) ps))
+    unfolding factorOutcome viewOf
+    sound-factor g =
+        let p = find n.access-point (e .instance) ps in
+        let v = viewOf ps e p in
+        sound-if (pointOf (p .0) .«out_of_service») ss (unchanged _) (outcomeOf v e _) (sound-unchanged ss _)
+        (sound-outcome ss v e _ view-seen (locked-event v (rulesAt ps e p) e)
+        (ap pointOf (found-site n.access-point (e .instance))) (found-fits n.access-point (e .instance) g))
+
+    -- Every operation, at an object that is found.
+    sound-worked : (o : Operation) → inForm o e ≡ true → missing (find (objectKind o) (e .instance) ps .0) ≡ false →
+        Sound ss (workedOutcome o ps e (find (objectKind o) (e .instance) ps))
+    unfolding refuse
+    sound-worked Factor f g = sound-factor g
+    sound-worked SetCount f g = sound-count ss e (e .amount)
+    sound-worked AdjustCount f g = sound-adjust ss e _
+    sound-worked SetDisable f g = sound-disable f
+    sound-worked SetService f g = sound-service _
+    sound-worked Unknown f g = sound-unchanged ss _
+
+    -- Every entry.
+    sound-entry : Sound ss (entryOutcome ps e)
+    unfolding entryOutcome outcomeAs refuse
+    sound-entry = formed (operationOf (e .operation)) (inForm (operationOf (e .operation)) e) refl
+      where
+        there : (o : Operation) → inForm o e ≡ true → (c : Bool) → missing (find (objectKind o) (e .instance) ps .0) ≡ c →
+            Sound ss (if c then refuse n.refused-no-object else workedOutcome o ps e (find (objectKind o) (e .instance) ps))
+        there o f true g = sound-unchanged ss _
+        there o f false g = sound-worked o f g
+
+        formed : (o : Operation) (c : Bool) → inForm o e ≡ c →
+            Sound ss
+            (if not c then refuse n.refused-form else
+            if missing (find (objectKind o) (e .instance) ps .0) then refuse n.refused-no-object else
+            workedOutcome o ps e (find (objectKind o) (e .instance) ps))
+        formed o true f = there o f (missing (find (objectKind o) (e .instance) ps .0)) refl
+        formed o false f = sound-unchanged ss _
+
+-- ── the panel after an entry, and after a list of them
+
+module _ (t : Pair → Bool) (k i : ℕ) (b : List ℕ) where
+  -- The bytes that are written pass beside the site record that is found.
+  Passes : List (List ℕ) → Type 0
+  Passes ss = isAt k i (findIn (isAt k i) ss) ≡ true → t (findIn (isAt k i) ss, b) ≡ true
+
+  -- Then a write keeps what all records pass.
+  all-store-found : (ps : Panel) → Passes (sites ps) → all t ps ≡ true → all t (store k i b ps) ≡ true
+  unfolding store Passes
+  all-store-found [] h a = refl
+  all-store-found (x ∷ xs) h a =
+      go (isAt k i (x .0)) refl h (λ g. all-store-found xs g (and-right (t x) (all t xs) a))
+    where
+      go : (c : Bool) → isAt k i (x .0) ≡ c →
+          (isAt k i (if c then x .0 else findIn (isAt k i) (sites xs)) ≡ true →
+          t (if c then x .0 else findIn (isAt k i) (sites xs), b) ≡ true) →
+          (Passes (sites xs) → all t (store k i b xs) ≡ true) →
+          all t (if c then (x .0, b) ∷ xs else x ∷ store k i b xs) ≡ true
+      go true e h ih = rw (h e, and-right (t x) (all t xs) a)
+      go false e h ih = rw (and-left (t x) (all t xs) a, ih h)
+
+  -- So does a write under a flag.
+  all-write-found : (on : Bool) (ps : Panel) → Passes (sites ps) → all t ps ≡ true → all t (write on k i b ps) ≡ true
+  unfolding write
+  all-write-found on ps h a = go (on && not (eqb i NONE))
+    where
+      go : (c : Bool) → all t (if c then store k i b ps else ps) ≡ true
+      go true = all-store-found ps h a
+      go false = a
+
+-- An outcome that leaves sound states leaves well-formed records.
+apply-well : (ss : List (List ℕ)) (o : Outcome) (ps : Panel) → sites ps ≡ ss → Sound ss o → all (recordWell ss) ps ≡ true →
+    all (recordWell ss) (apply o ps) ≡ true
+unfolding apply Passes
+apply-well ss o ps of-site h a =
+    all-write-found (recordWell ss) n.access-point (o .point .instance) (pointBytes (o .point .state)) (o .point .written) _
+    (simp (sites-write, of-site)
+    (λ p. point-well ss _ (o .point .state) (kind-at n.access-point (o .point .instance) _ p) (h .point)))
+    (all-write (recordWell ss) (o .credential .written) n.access-credential (o .credential .instance)
+    (credentialBytes (o .credential .state)) _
+    (λ x p w. credential-well ss (x .0) (o .credential .state) (kind-at n.access-credential (o .credential .instance) (x .0) p) (h .credential))
+    (all-write (recordWell ss) (o .«zone_to» .written) n.access-zone (o .«zone_to» .instance) (zoneBytes (o .«zone_to» .count)) _
+    (λ x p w. zone-well ss (x .0) (o .«zone_to» .count) (kind-at n.access-zone (o .«zone_to» .instance) (x .0) p))
+    (all-write (recordWell ss) (o .«zone_from» .written) n.access-zone (o .«zone_from» .instance) (zoneBytes (o .«zone_from» .count)) ps
+    (λ x p w. zone-well ss (x .0) (o .«zone_from» .count) (kind-at n.access-zone (o .«zone_from» .instance) (x .0) p)) a)))
+
+-- One entry leaves well-formed records.
+pub step-well : (ss : List (List ℕ)) → all (namesExist ss) ss ≡ true → (e : Entry) (ps : Panel) → sites ps ≡ ss →
+    all (recordWell ss) ps ≡ true → all (recordWell ss) (apply (entryOutcome ps e) ps) ≡ true
+step-well ss names e ps of-site a = apply-well ss (entryOutcome ps e) ps of-site (sound-entry ss ps of-site a e names) a
+
+-- So does a list of them.
+pub well-after : (ss : List (List ℕ)) → all (namesExist ss) ss ≡ true → (es : List Entry) (ps : Panel) → sites ps ≡ ss →
+    all (recordWell ss) ps ≡ true → all (recordWell ss) (after ps es) ≡ true
+unfolding after
+well-after ss names [] ps of-site a = a
+well-after ss names (e ∷ es) ps of-site a =
+    well-after ss names es (apply (entryOutcome ps e) ps) (sites-apply (entryOutcome ps e) ps ∙ of-site)
+    (step-well ss names e ps of-site a)
