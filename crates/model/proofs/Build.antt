@@ -1,14 +1,21 @@
--- Site records and entries for examples, and a journal from fresh through the calls. What is not given is zero, unlimited, end of time or
+-- Site records and entries for examples, and a journal of them from fresh. What is not given is zero, unlimited, end of time or
 -- NONE.
 use Prim.Native.Nat.{ℕ, _*_, _/_}
+use mathlib.Core.Path.{_≡_}
 use mathlib.Core.List.{List, [], _∷_, _++_, map, flatten}
+use mathlib.Core.Bool.{Bool, true, false, _&&_}
+use lib.Dec.{eqb}
 use lib.ListN.{length}
-use Rattle.octets.specs.Octets.{digits}
-use Rattle.model.specs.Words.{zeros}
+use Rattle.octets.specs.Octets.{digits, same}
+use Rattle.model.specs.Words.{all, zeros}
 use Rattle.model.specs.Numbers as n
-use Rattle.model.specs.Numbers.{NONE, UNLIMITED}
-use Rattle.model.specs.Calls.{RunResult, freshState, runJournal}
-use Rattle.model.specs.Lists.{eventIn, answersIn}
+use Rattle.model.specs.Numbers.{NONE, NEVER, UNLIMITED, entry-size, answer-size}
+use Rattle.model.specs.Calls.{RunResult, freshState}
+use Rattle.model.specs.Lists.{eventIn, answersIn, Run, History, worked}
+use Rattle.model.specs.Print.{fromFresh}
+use Rattle.model.specs.Part.{Part, inside, readInside, partRecords, partEntries, partAnswers, partState}
+use Rattle.model.specs.declared.Returned.the-variants.{WorkedThrough}
+use Rattle.model.specs.Site.{records}
 
 -- A counting zone with its upper limit; the same with the passback and its timeout.
 unfoldable pub zone : ℕ → ℕ → List ℕ
@@ -45,6 +52,12 @@ limitedCredential i disable activation expiry uses days =
     (n.access-credential ∷ 0 ∷ disable ∷ 0 ∷ []) ++ digits 4 i ++ digits 4 activation ++ digits 4 expiry ++ digits 2 uses
     ++ digits 2 days ++ digits 2 UNLIMITED ++ zeros 2 ++ digits 4 NONE ++ digits 4 NONE
 
+-- A credential with its absentee days.
+unfoldable pub absentCredential : ℕ → ℕ → List ℕ
+absentCredential i days =
+    (n.access-credential ∷ 0 ∷ 0 ∷ 0 ∷ []) ++ digits 4 i ++ digits 4 0 ++ digits 4 NEVER ++ digits 2 UNLIMITED ++ digits 2 UNLIMITED
+    ++ digits 2 days ++ zeros 2 ++ digits 4 NONE ++ digits 4 NONE
+
 unfoldable pub factor : ℕ → ℕ → ℕ → List ℕ
 factor role i value = (n.authentication-factor ∷ 0 ∷ role ∷ 0 ∷ []) ++ digits 4 i ++ (2 ∷ zeros 7) ++ digits 4 0 ++ digits 4 value ++ zeros 8
 
@@ -69,19 +82,55 @@ adjust i amount = (3 ∷ 0 ∷ 0 ∷ 0 ∷ []) ++ digits 4 0 ++ digits 4 i ++ di
 unfoldable pub setDisable : ℕ → ℕ → List ℕ
 setDisable i disable = (4 ∷ disable ∷ 0 ∷ 0 ∷ []) ++ digits 4 0 ++ digits 4 i ++ zeros 12
 
--- ── a journal from fresh, through the calls
+-- A point locked; a journal that is no whole entry.
+unfoldable pub lock : ℕ → ℕ → List ℕ
+lock i time = (5 ∷ n.argument-lock ∷ 0 ∷ 0 ∷ []) ++ digits 4 time ++ digits 4 i ++ zeros 12
 
--- The number that the run returns, and the bytes of its answers.
-unfoldable pub fromFresh : List (List ℕ) → List (List ℕ) → RunResult
-fromFresh site journal =
-    runJournal (flatten site) (freshState (flatten site) (zeros (length (flatten site))) .state) (flatten journal)
-    (zeros (length (flatten journal) / n.entry-size * n.answer-size))
+unfoldable pub cut : List (List ℕ)
+cut = (1 ∷ []) ∷ []
+
+-- ── a journal from fresh, of records and entries
+
+unfoldable pub runOf : List (List ℕ) → List (List ℕ) → RunResult
+runOf site journal = fromFresh (flatten site) (flatten journal)
 
 -- The events of the answers.
 unfoldable pub events : RunResult → List ℕ
 events r = map eventIn (answersIn (r .answers))
 
+-- ── lists of runs, and parts
+
+-- The premises of `Isolation` as tests, in its order: the border in both sites, the reads in both lists, the same records, the same
+-- entries; last the conclusion.
+unfoldable pub isolationTests : Part → History → History → List Bool
+isolationTests P g h =
+    all (inside P) (records (g .site)) ∷ all (inside P) (records (h .site))
+    ∷ all (readInside P (records (g .site))) (worked g) ∷ all (readInside P (records (h .site))) (worked h)
+    ∷ same (flatten (partRecords P g)) (flatten (partRecords P h)) ∷ same (flatten (partEntries P g)) (flatten (partEntries P h))
+    ∷ (same (flatten (partAnswers P g)) (flatten (partAnswers P h)) && same (flatten (partState P g)) (flatten (partState P h))) ∷ []
+
+-- A run of a journal of entries, with room for its answers.
+unfoldable pub run : List (List ℕ) → Run
+run journal = record { journal = flatten journal; answers = zeros (length (flatten journal) / entry-size * answer-size) }
+
+-- Journals from fresh over a site of records.
+unfoldable pub history : (site : List (List ℕ)) → List (List (List ℕ)) → freshState (flatten site) (zeros (length (flatten site))) .returned ≡ WorkedThrough → History
+history site journals accepted =
+    record {
+      site = flatten site;
+      buffer = zeros (length (flatten site));
+      accepted = accepted;
+      runs = map run journals;
+    }
+
+-- The part: point 1 and credential 1, with the zones and rights given.
+unfoldable pub part : (ℕ → Bool) → (ℕ → Bool) → Part
+part zones rights = record { zones = zones; points = λ i. eqb i 1; credentials = λ i. eqb i 1; rights = rights }
+
+unfoldable pub nothing : ℕ → Bool
+nothing i = false
+
 -- One name that opens them all.
 unfoldable pub examples : Unit {0}
-unfolding zone passbackZone point lockingPoint threatPoint credential limitedCredential factor card rule everyRule read adjust setDisable fromFresh events
+unfolding zone passbackZone point lockingPoint threatPoint credential limitedCredential absentCredential factor card rule everyRule read adjust setDisable lock cut runOf events isolationTests run history part nothing
 examples = tt

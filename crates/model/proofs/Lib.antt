@@ -1,3 +1,8 @@
+pub mod Open
+pub mod Build
+pub mod Cases
+pub mod Instances
+pub mod Premises
 pub mod Laws
 pub mod RoundTrip
 pub mod Flat
@@ -13,6 +18,3 @@ pub mod WellStep
 pub mod KeptWell
 pub mod Untouched
 pub mod Granted
-pub mod Open
-pub mod Build
-pub mod Cases

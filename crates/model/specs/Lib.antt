@@ -9,6 +9,7 @@ pub mod Effects
 pub mod Step
 pub mod Calls
 pub mod Lists
+pub mod Print
 pub mod Tally
 pub mod Part
 pub mod Earned
