@@ -3,19 +3,15 @@
 use Prim.Native.Nat.{ℕ, _*_, _/_}
 use mathlib.Core.Path.{_≡_}
 use mathlib.Core.List.{List, [], _∷_, _++_, map, flatten}
-use mathlib.Core.Bool.{Bool, true, false, _&&_}
-use lib.Dec.{eqb}
 use lib.ListN.{length}
-use Rattle.octets.specs.Octets.{digits, same}
-use Rattle.model.specs.Words.{all, zeros}
+use Rattle.octets.specs.Octets.{digits}
+use Rattle.model.specs.Words.{zeros}
 use Rattle.model.specs.Numbers as n
 use Rattle.model.specs.Numbers.{NONE, NEVER, UNLIMITED, entry-size, answer-size}
 use Rattle.model.specs.Calls.{RunResult, freshState}
-use Rattle.model.specs.Lists.{eventIn, answersIn, Run, History, worked}
+use Rattle.model.specs.Lists.{eventIn, answersIn, Run, History}
 use Rattle.model.specs.Print.{fromFresh}
-use Rattle.model.specs.Part.{Part, inside, readInside, partRecords, partEntries, partAnswers, partState}
 use Rattle.model.specs.declared.Returned.the-variants.{WorkedThrough}
-use Rattle.model.specs.Site.{records}
 
 -- A counting zone with its upper limit; the same with the passback and its timeout.
 unfoldable pub zone : ℕ → ℕ → List ℕ
@@ -98,16 +94,7 @@ runOf site journal = fromFresh (flatten site) (flatten journal)
 unfoldable pub events : RunResult → List ℕ
 events r = map eventIn (answersIn (r .answers))
 
--- ── lists of runs, and parts
-
--- The premises of `Isolation` as tests, in its order: the border in both sites, the reads in both lists, the same records, the same
--- entries; last the conclusion.
-unfoldable pub isolationTests : Part → History → History → List Bool
-isolationTests P g h =
-    all (inside P) (records (g .site)) ∷ all (inside P) (records (h .site))
-    ∷ all (readInside P (records (g .site))) (worked g) ∷ all (readInside P (records (h .site))) (worked h)
-    ∷ same (flatten (partRecords P g)) (flatten (partRecords P h)) ∷ same (flatten (partEntries P g)) (flatten (partEntries P h))
-    ∷ (same (flatten (partAnswers P g)) (flatten (partAnswers P h)) && same (flatten (partState P g)) (flatten (partState P h))) ∷ []
+-- ── lists of runs
 
 -- A run of a journal of entries, with room for its answers.
 unfoldable pub run : List (List ℕ) → Run
@@ -123,14 +110,7 @@ history site journals accepted =
       runs = map run journals;
     }
 
--- The part: point 1 and credential 1, with the zones and rights given.
-unfoldable pub part : (ℕ → Bool) → (ℕ → Bool) → Part
-part zones rights = record { zones = zones; points = λ i. eqb i 1; credentials = λ i. eqb i 1; rights = rights }
-
-unfoldable pub nothing : ℕ → Bool
-nothing i = false
-
 -- One name that opens them all.
 unfoldable pub examples : Unit {0}
-unfolding zone passbackZone point lockingPoint threatPoint credential limitedCredential absentCredential factor card rule everyRule read adjust setDisable lock cut runOf events isolationTests run history part nothing
+unfolding zone passbackZone point lockingPoint threatPoint credential limitedCredential absentCredential factor card rule everyRule read adjust setDisable lock cut runOf events run history
 examples = tt

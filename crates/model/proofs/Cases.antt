@@ -12,17 +12,17 @@ use Rattle.model.proofs.Open.{definitions}
 use Rattle.model.proofs.Build.{zone, passbackZone, point, lockingPoint, credential, limitedCredential, threatPoint, factor, card, rule, everyRule, read, adjust, setDisable, runOf, events, examples}
 
 -- The paper's site and journal.
-site : List (List ℕ)
+unfoldable pub site : List (List ℕ)
 site =
     zone 23 1 ∷ point 2 10 1 1 23 NONE ∷ credential 5 NEVER UNLIMITED NONE ∷ card 5 55 ∷ credential 6 NEVER UNLIMITED NONE
     ∷ card 6 66 ∷ []
 
-journal : List (List ℕ)
+unfoldable pub journal : List (List ℕ)
 journal = read 2 100 55 ∷ read 2 160 66 ∷ read 2 220 77 ∷ []
 
 -- The three printed answers. A site that expires its card at 100. A rule from minute 10 to minute 20. Point 3 leads out of zone 23 and
 -- point 2 into it; an adjustment by 0 shows the count between the two passages. Two adjustments.
-record Worked-cases : Type 0 where
+pub record Worked-cases : Type 0 where
   printed :
       runOf site journal .answers
       ≡ 0x00 ∷ 0x01 ∷ 0x01 ∷ 0x00 ∷ 0x00 ∷ 0x00 ∷ 0x00 ∷ 0x01 ∷ 0x00 ∷ 0x00 ∷ 0x00 ∷ 0x05 ∷ 0x00 ∷ 0x00 ∷ 0x00 ∷ 0x01
@@ -56,13 +56,13 @@ record Worked-cases : Type 0 where
   adjustment :
       map (field 12 4) (answersIn (runOf (zone 23 0 ∷ []) (adjust 23 2 ∷ adjust 23 0xFFFFFFFB ∷ []) .answers)) ≡ 2 ∷ 0 ∷ []
 
-worked-cases : Worked-cases
+pub worked-cases : Worked-cases
 unfolding definitions examples site journal
 worked-cases = record { printed = refl; text = refl; printed-number = refl; expiry = refl; minute = refl; passages = refl; adjustment = refl }
 
 -- ── the misreadings of the paper, each shown to be not what the definitions give
 
-record Misreadings : Type 0 where
+pub record Misreadings : Type 0 where
   -- "days fall on every grant": a card with two days is granted three times on the first, once more on the second, and then no more.
   days :
       events
@@ -93,7 +93,7 @@ record Misreadings : Type 0 where
       (read 2 1000 77 ∷ read 2 500 55 ∷ read 2 1059 55 ∷ read 2 1060 55 ∷ []))
       ≡ 129 ∷ 161 ∷ 161 ∷ 1 ∷ []
 
-misreadings : Misreadings
+pub misreadings : Misreadings
 unfolding definitions examples
 misreadings =
     record { days = refl; negative-rule = refl; factor-timeout = refl; passback-timeout = refl; clock-set-back = refl }
@@ -102,7 +102,7 @@ misreadings =
 
 -- Step 5: a card that is not yet active, expired, disabled and out of days and uses; one that is disabled in turn with 1, 2, 3 and 0; one
 -- that is out of uses alone. Steps 7 and 8: a point that denies all at a threat level above the card's authority, and one in AUTHORIZE.
-record Order-of-checks : Type 0 where
+pub record Order-of-checks : Type 0 where
   dates :
       events (runOf (point 2 0 1 1 NONE NONE ∷ limitedCredential 5 1 200 100 0 0 ∷ card 5 55 ∷ []) (read 2 150 55 ∷ read 2 250 55 ∷ []))
       ≡ 151 ∷ 152 ∷ []
@@ -120,6 +120,6 @@ record Order-of-checks : Type 0 where
       (read 2 0 55 ∷ read 3 0 55 ∷ read 4 0 55 ∷ []))
       ≡ 128 ∷ 137 ∷ 134 ∷ []
 
-order-of-checks : Order-of-checks
+pub order-of-checks : Order-of-checks
 unfolding definitions examples
 order-of-checks = record { dates = refl; disables = refl; uses = refl; threat = refl }

@@ -1,7 +1,8 @@
 pub mod Open
 pub mod Build
+pub mod Parts
 pub mod Cases
-pub mod Instances
+pub mod Applied
 pub mod Premises
 pub mod Laws
 pub mod RoundTrip

@@ -13,7 +13,8 @@ use Rattle.model.specs.Calls.{freshState}
 use Rattle.model.specs.Lists.{History, worked}
 use Rattle.model.specs.Part.{Part, inside, readInside, partRecords, partEntries, partAnswers, partState}
 use Rattle.model.proofs.Open.{definitions}
-use Rattle.model.proofs.Build.{zone, point, credential, card, everyRule, read, history, part, nothing, isolationTests, examples}
+use Rattle.model.proofs.Build.{zone, point, credential, card, everyRule, read, history, examples}
+use Rattle.model.proofs.Parts.{part, nothing, isolationTests, parts}
 use Rattle.model.specs.declared.Returned.the-variants.{WorkedThrough}
 
 -- ── the border
@@ -35,12 +36,12 @@ quiet = history wing ((read 1 6 11 ∷ []) ∷ []) refl
 
 -- A point of the part leads into a zone across the border: the zone is full, or it is not.
 zone-outside : isolationTests (part nothing nothing) crowded quiet ≡ false ∷ false ∷ true ∷ true ∷ true ∷ true ∷ false ∷ []
-unfolding definitions examples wing crowded quiet
+unfolding definitions examples wing crowded quiet parts
 zone-outside = refl
 
 -- A point across the border leads into a zone of the part. So the border is asked both ways.
 point-outside : isolationTests (part (λ i. eqb i 9) nothing) crowded quiet ≡ false ∷ false ∷ true ∷ true ∷ true ∷ true ∷ false ∷ []
-unfolding definitions examples wing crowded quiet
+unfolding definitions examples wing crowded quiet parts
 point-outside = refl
 
 -- A credential of the part names rights 5 across the border, which have a rule in one site and none in the other.
@@ -56,7 +57,7 @@ unfolding definitions examples office
 unruled = history office ((read 1 5 11 ∷ []) ∷ []) refl
 
 rights-outside : isolationTests (part nothing nothing) ruled unruled ≡ false ∷ false ∷ true ∷ true ∷ true ∷ true ∷ false ∷ []
-unfolding definitions examples office ruled unruled
+unfolding definitions examples office ruled unruled parts
 rights-outside = refl
 
 -- ── the reads
@@ -74,7 +75,7 @@ unfolding definitions examples door
 unvisited = history door ((read 1 5 22 ∷ []) ∷ []) refl
 
 card-outside : isolationTests (part nothing nothing) visited unvisited ≡ true ∷ true ∷ false ∷ true ∷ true ∷ true ∷ false ∷ []
-unfolding definitions examples door visited unvisited
+unfolding definitions examples door visited unvisited parts
 card-outside = refl
 
 -- The part's card is read at point 2, across the border, or it is not: its last use differs.
@@ -90,7 +91,7 @@ unfolding definitions examples gate door
 stayed = history gate ([] ∷ []) refl
 
 card-abroad : isolationTests (part nothing nothing) strayed stayed ≡ true ∷ true ∷ false ∷ true ∷ true ∷ true ∷ false ∷ []
-unfolding definitions examples gate door strayed stayed
+unfolding definitions examples gate door strayed stayed parts
 card-abroad = refl
 
 -- ── the same records, the same entries
@@ -109,10 +110,10 @@ unfolding definitions examples door
 open-late = history door ((read 1 6 11 ∷ []) ∷ []) refl
 
 other-records : isolationTests (part nothing nothing) open-early closed ≡ true ∷ true ∷ true ∷ true ∷ false ∷ true ∷ false ∷ []
-unfolding definitions examples door open-early closed
+unfolding definitions examples door open-early closed parts
 other-records = refl
 
 -- The card is read at another time.
 other-entries : isolationTests (part nothing nothing) open-early open-late ≡ true ∷ true ∷ true ∷ true ∷ true ∷ false ∷ false ∷ []
-unfolding definitions examples door open-early open-late
+unfolding definitions examples door open-early open-late parts
 other-entries = refl

@@ -1,4 +1,4 @@
--- The theorems of Demands at small lists of runs, computed: their premises can be met, and what they say can fail.
+-- The theorems of Demands applied to small lists of runs, computed: their premises can be met, and an edited definition makes them false.
 use Prim.Native.Nat.{ℕ}
 use mathlib.Core.Path.{_≡_, refl}
 use mathlib.Core.List.{List, [], _∷_, _++_, map}
@@ -9,14 +9,20 @@ use Rattle.model.specs.Numbers.{NONE, NEVER, UNLIMITED}
 use Rattle.model.specs.State.{wellFormed}
 use Rattle.model.specs.Calls.{number}
 use Rattle.model.specs.Lists.{History, runOn, returns, begun, ended, answersIn, firstOf, refusalIn}
-use Rattle.model.specs.Tally.{Tally, tallyOf, countOf}
+use Rattle.model.specs.Tally.{smaller, move, setTo, signed, passed, tallied, tally, tallyOf, standing, countOf, Tally}
 use Rattle.model.proofs.Open.{definitions}
-use Rattle.model.proofs.Build.{zone, point, lockingPoint, credential, absentCredential, factor, card, read, adjust, lock, cut, runOf, events, run, history, part, nothing, isolationTests, examples}
+use Rattle.model.proofs.Build.{zone, point, lockingPoint, credential, absentCredential, factor, card, read, adjust, lock, cut, runOf, events, run, history, examples}
+use Rattle.model.proofs.Parts.{part, nothing, isolationTests, parts}
+
+-- One name that opens the definitions of Tally.
+unfoldable tallies : Unit {0}
+unfolding smaller move setTo signed passed tallied tally tallyOf standing countOf
+tallies = tt
 
 -- ── the count
 
 -- Point 1 leads into zone 9, point 2 out of it, point 3 out of zone 8. A journal turned back stands between two that are worked.
-hall : History
+unfoldable pub hall : History
 unfolding definitions examples
 hall =
     history
@@ -25,78 +31,78 @@ hall =
     ((read 1 1 55 ∷ read 2 2 55 ∷ read 2 3 55 ∷ []) ∷ cut ∷ (read 1 4 55 ∷ read 3 5 55 ∷ []) ∷ []) refl
 
 -- One in, two out, one in, and one out of the other zone: T is 0, its lowest standing −1, the count 1.
-hall-tally : tallyOf 9 hall ≡ record { T = pos 0; L = negsuc 0 }
-unfolding definitions examples hall
+pub hall-tally : tallyOf 9 hall ≡ record { T = pos 0; L = negsuc 0 }
+unfolding definitions examples hall tallies
 hall-tally = refl
 
-hall-count : countOf 9 hall ≡ 1
-unfolding definitions examples hall
+pub hall-count : countOf 9 hall ≡ 1
+unfolding definitions examples hall tallies
 hall-count = refl
 
-hall-returns : map number (returns (hall .site) (begun hall) (hall .runs)) ≡ 0 ∷ 10 ∷ 0 ∷ []
+pub hall-returns : map number (returns (hall .site) (begun hall) (hall .runs)) ≡ 0 ∷ 10 ∷ 0 ∷ []
 unfolding definitions examples hall
 hall-returns = refl
 
 -- ── the part
 
 -- The west wing: zone 1, point 1 into it, credential 1. The east wing: zone 7 for one person, point 7 that locks at the first failure.
-west : List (List ℕ)
+unfoldable pub west : List (List ℕ)
 west = zone 1 5 ∷ point 1 10 1 1 1 NONE ∷ credential 1 NEVER UNLIMITED NONE ∷ card 1 11 ∷ []
 
-east : List (List ℕ)
+unfoldable pub east : List (List ℕ)
 east = zone 7 1 ∷ lockingPoint 7 1 0 ∷ point 8 10 1 1 7 NONE ∷ credential 2 NEVER UNLIMITED NONE ∷ card 2 22 ∷ []
 
 -- East fills its zone and locks its point, in journals of its own; or there is no east.
-both-wings : History
+unfoldable pub both-wings : History
 unfolding definitions examples west east
 both-wings = history (east ++ west) ((read 8 1 22 ∷ read 7 2 77 ∷ read 1 3 11 ∷ []) ∷ cut ∷ (read 1 4 12 ∷ []) ∷ []) refl
 
-west-alone : History
+unfoldable pub west-alone : History
 unfolding definitions examples west
 west-alone = history west ((read 1 3 11 ∷ read 1 4 12 ∷ []) ∷ []) refl
 
-wings :
+pub wings :
     isolationTests (part (λ i. eqb i 1) nothing) both-wings west-alone
     ≡ true ∷ true ∷ true ∷ true ∷ true ∷ true ∷ true ∷ []
-unfolding definitions examples west east both-wings west-alone
+unfolding definitions examples west east both-wings west-alone parts
 wings = refl
 
 -- ── well formed
 
 -- A point that waits for the second factor is locked.
-waiting-locked : History
+unfoldable pub waiting-locked : History
 unfolding definitions examples
 waiting-locked =
     history (point 1 0 1 2 NONE NONE ∷ credential 5 NEVER UNLIMITED NONE ∷ card 5 55 ∷ []) ((read 1 1 55 ∷ lock 1 2 ∷ []) ∷ []) refl
 
-waiting-locked-well : wellFormed (waiting-locked .site) (ended waiting-locked) ≡ true
+pub waiting-locked-well : wellFormed (waiting-locked .site) (ended waiting-locked) ≡ true
 unfolding definitions examples waiting-locked
 waiting-locked-well = refl
 
 -- ── nothing changes
 
 -- A journal of half an entry leaves the state; so does an entry on a zone that is not there, in the middle of a journal.
-counted-hall : History
+unfoldable pub counted-hall : History
 unfolding definitions examples
 counted-hall = history (zone 7 0 ∷ []) ((adjust 7 3 ∷ []) ∷ []) refl
 
-turned-back-leaves : runOn (counted-hall .site) (ended counted-hall) (run cut) .state ≡ ended counted-hall
+pub turned-back-leaves : runOn (counted-hall .site) (ended counted-hall) (run cut) .state ≡ ended counted-hall
 unfolding definitions examples counted-hall
 turned-back-leaves = refl
 
-refused-leaves :
+pub refused-leaves :
     runOn (counted-hall .site) (ended counted-hall) (firstOf 2 (run (adjust 7 1 ∷ adjust 9 1 ∷ []))) .state
     ≡ runOn (counted-hall .site) (ended counted-hall) (firstOf 1 (run (adjust 7 1 ∷ adjust 9 1 ∷ []))) .state
 unfolding definitions examples counted-hall
 refused-leaves = refl
 
-refused-answers : map refusalIn (answersIn (runOf (zone 7 0 ∷ []) (adjust 7 1 ∷ adjust 9 1 ∷ []) .answers)) ≡ 0 ∷ 8 ∷ []
+pub refused-answers : map refusalIn (answersIn (runOf (zone 7 0 ∷ []) (adjust 7 1 ∷ adjust 9 1 ∷ []) .answers)) ≡ 0 ∷ 8 ∷ []
 unfolding definitions examples
 refused-answers = refl
 
 -- ── a grant is earned
 
 -- A card that may be absent for one day is not granted after two.
-absent : events (runOf (point 1 0 1 1 NONE NONE ∷ absentCredential 5 1 ∷ card 5 55 ∷ []) (read 1 0 55 ∷ read 1 172800 55 ∷ [])) ≡ 1 ∷ 157 ∷ []
+pub absent : events (runOf (point 1 0 1 1 NONE NONE ∷ absentCredential 5 1 ∷ card 5 55 ∷ []) (read 1 0 55 ∷ read 1 172800 55 ∷ [])) ≡ 1 ∷ 157 ∷ []
 unfolding definitions examples
 absent = refl
