@@ -1,0 +1,46 @@
+//! Times of one case, gathered around its base so that timeouts and windows are met closely.
+
+use super::random::Random;
+use crate::numbers::{NEVER, SECONDS_PER_DAY, SECONDS_PER_MINUTE};
+
+/// The latest time that an entry may carry.
+const LAST_TIME: u32 = NEVER - 1;
+
+/// A time for a case to begin with.
+pub fn base_time(random: &mut Random) -> u32 {
+    let day = random.below(20) as u32 * SECONDS_PER_DAY;
+    let minute = random.below(1_440) as u32 * SECONDS_PER_MINUTE;
+    match random.below(16) {
+        0 => 0,
+        1 => 100,
+        2 => LAST_TIME - random.below(200) as u32,
+        3 => random.number32().min(LAST_TIME),
+        4..=7 => day,
+        _ => day + minute,
+    }
+}
+
+/// A time not far from the base, on either side.
+pub fn near(random: &mut Random, base: u32) -> u32 {
+    let distance = random.pick(&[0, 1, 5, 10, 60, 61, 3_600, SECONDS_PER_DAY]);
+    if random.sixteenths(8) {
+        base.saturating_sub(distance)
+    } else {
+        base.saturating_add(distance).min(LAST_TIME)
+    }
+}
+
+/// The time of the entry after one at `now`: mostly a little later, at times much later or
+/// set back.
+pub fn next_time(random: &mut Random, base: u32, now: u32) -> u32 {
+    let later = match random.below(64) {
+        0..=31 => random.below(5) as u32,
+        32..=45 => random.below(90) as u32,
+        46..=49 => random.pick(&[60, 120, 3_600]),
+        50..=52 => SECONDS_PER_DAY * (1 + random.below(3) as u32),
+        53..=56 => return now.saturating_sub(random.below(3_700) as u32),
+        57..=62 => return near(random, base),
+        _ => return random.pick(&[0, LAST_TIME, now]),
+    };
+    now.saturating_add(later).min(LAST_TIME)
+}

@@ -1,0 +1,104 @@
+//! Damage to sites, states, journals and the length of answers.
+
+use super::random::Random;
+use super::sites::MISSING;
+use crate::bytes::{get32, put32};
+use crate::layout::record;
+use crate::numbers::{ANSWER_LENGTH, ENTRY_LENGTH, NONE};
+
+/// Damages bytes that hold units (records or entries) of one length. The outcome may by chance
+/// be sound.
+pub fn damage(random: &mut Random, bytes: &mut Vec<u8>, unit: usize) {
+    if bytes.len() < unit {
+        return extend(random, bytes, unit);
+    }
+    match random.below(16) {
+        0..=3 => flip(random, bytes),
+        4..=7 => overwrite(random, bytes, unit),
+        8 => bytes.truncate(random.below(bytes.len())),
+        9 => extend(random, bytes, unit),
+        10..=11 => duplicate(random, bytes, unit),
+        12 => remove(random, bytes, unit),
+        13 => swap(random, bytes, unit),
+        _ => change_reference(random, bytes, unit),
+    }
+}
+
+/// Lengthens bytes beyond the most, by whole units of zeros.
+pub fn overlong(bytes: &mut Vec<u8>, unit: usize, most: usize) {
+    bytes.resize(most / unit * unit + unit, 0);
+}
+
+/// A length of answers that mostly does not fit the journal.
+pub fn answers_length(random: &mut Random, journal: usize) -> usize {
+    let right = journal / ENTRY_LENGTH * ANSWER_LENGTH;
+    match random.below(6) {
+        0 => 0,
+        1 => right + 1,
+        2 => right.saturating_sub(1),
+        3 => right + ANSWER_LENGTH,
+        4 => right.saturating_sub(ANSWER_LENGTH),
+        _ => journal,
+    }
+}
+
+fn flip(random: &mut Random, bytes: &mut [u8]) {
+    let offset = random.below(bytes.len());
+    bytes[offset] ^= 1 << random.below(8);
+}
+
+/// Writes a number at or beside a bound where one-byte fields stand.
+fn overwrite(random: &mut Random, bytes: &mut [u8], unit: usize) {
+    let field = random.pick(&[0, 1, 2, 3, 2, 3, 4, 5, 8, 16, 17, 18, 19]);
+    let offset = unit_at(random, bytes, unit) + field;
+    bytes[offset] = random.pick(&[0, 1, 2, 3, 4, 5, 6, 16, 32, 100, 101, 127, 128, 255]);
+}
+
+fn extend(random: &mut Random, bytes: &mut Vec<u8>, unit: usize) {
+    let more = random.pick(&[1, unit - 1, unit, unit + 1]);
+    bytes.resize(bytes.len() + more, 0);
+}
+
+fn unit_at(random: &mut Random, bytes: &[u8], unit: usize) -> usize {
+    random.below(bytes.len() / unit) * unit
+}
+
+/// Puts a copy of one unit before another, at times under the other's instance.
+fn duplicate(random: &mut Random, bytes: &mut Vec<u8>, unit: usize) {
+    let from = unit_at(random, bytes, unit);
+    let to = unit_at(random, bytes, unit);
+    let mut copy = bytes[from..from + unit].to_vec();
+    if random.sixteenths(8) {
+        let instance = record::INSTANCE..record::INSTANCE + 4;
+        copy[instance.clone()].copy_from_slice(&bytes[to..to + unit][instance]);
+    }
+    bytes.splice(to..to, copy);
+}
+
+fn remove(random: &mut Random, bytes: &mut Vec<u8>, unit: usize) {
+    let from = unit_at(random, bytes, unit);
+    bytes.drain(from..from + unit);
+}
+
+fn swap(random: &mut Random, bytes: &mut [u8], unit: usize) {
+    let one = unit_at(random, bytes, unit);
+    let other = unit_at(random, bytes, unit);
+    for offset in 0..unit {
+        bytes.swap(one + offset, other + offset);
+    }
+}
+
+/// Writes an instance, real or not, where four-byte fields stand; at times that of the field
+/// before, so that a point has the same zone twice.
+fn change_reference(random: &mut Random, bytes: &mut [u8], unit: usize) {
+    let start = unit_at(random, bytes, unit);
+    let field = 4 * random.below(unit / 4);
+    let before = get32(bytes, start + field.saturating_sub(4));
+    let others = [0, 1, 2, 7, MISSING, NONE - 1, NONE, NONE + 1, u32::MAX];
+    let instance = if random.sixteenths(6) {
+        before
+    } else {
+        random.pick(&others)
+    };
+    put32(bytes, start + field, instance);
+}

@@ -1,0 +1,22 @@
+//! Second implementation of the access decision engine of document 01.
+//!
+//! It is written from the text of document 01 alone, shares no code with the proved engine, and
+//! serves as its counterpart in the differential test and as the baseline of the benchmark. Every
+//! lookup is a linear scan of the site. Names follow Addendum 135-2008j (document 002).
+
+#![forbid(unsafe_code)]
+
+pub mod answer;
+pub mod build;
+pub mod bytes;
+pub mod entry;
+mod factor_read;
+pub mod generate;
+pub mod journal;
+pub mod layout;
+pub mod numbers;
+pub mod print;
+mod rights;
+pub mod site;
+pub mod state;
+pub mod time;

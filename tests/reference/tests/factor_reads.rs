@@ -1,0 +1,236 @@
+//! Waiting, lockout and marks of factor reads.
+
+use reference::build::{Credential, EntryFields, Factor, Panel, Point, Zone, FORMAT};
+use reference::bytes::get32;
+use reference::layout::{credential_state, point_state};
+use reference::numbers::{
+    authorization_mode, credential_flag, event, factor_role, factors_wanted, format, kind, mark,
+    passback_mode, point_flag, zone_flag, MOST_COUNT, NEVER, NONE,
+};
+
+const CARD: [u8; 8] = [0, 0, 0, 0, 0, 0, 0, 0x55];
+const CODE: [u8; 8] = [0, 0, 0, 0, 0, 0, 0x12, 0x34];
+
+fn badge(time: u32) -> EntryFields {
+    EntryFields::read_factor(time, 1, FORMAT, CARD)
+}
+
+fn enter_code(time: u32) -> EntryFields {
+    EntryFields::read_factor(time, 1, FORMAT, CODE)
+}
+
+fn read_error(time: u32) -> EntryFields {
+    EntryFields::read_factor(time, 1, format::ERROR, [0; 8])
+}
+
+fn open_point() -> Point {
+    Point {
+        authorization_mode: authorization_mode::GRANT_ACTIVE,
+        ..Point::new(1)
+    }
+}
+
+fn two_factor_point() -> Point {
+    Point {
+        factors_wanted: factors_wanted::TWO,
+        factor_timeout: 30,
+        max_failed_attempts: 2,
+        lockout_relinquish_time: 60,
+        ..open_point()
+    }
+}
+
+/// Credential 5 with a card and a code at the point.
+fn panel(point: Point, flags: u8) -> Panel {
+    Panel::fresh(&[
+        point.record(),
+        Credential {
+            flags,
+            ..Credential::new(5)
+        }
+        .record(),
+        Factor::new(5, CARD).record(),
+        Factor {
+            role: factor_role::CONFIRMING,
+            ..Factor::new(5, CODE)
+        }
+        .record(),
+    ])
+}
+
+fn waiting_credential(panel: &Panel) -> u32 {
+    let held = panel.state_of(kind::POINT, 1);
+    get32(held, point_state::WAITING_CREDENTIAL)
+}
+
+fn last_use(panel: &Panel) -> u32 {
+    let held = panel.state_of(kind::CREDENTIAL, 5);
+    get32(held, credential_state::LAST_USE_TIME)
+}
+
+#[test]
+fn the_first_of_two_factors_names_the_credential_and_writes_nothing_of_it() {
+    let mut panel = panel(two_factor_point(), credential_flag::TRACE_FLAG);
+    let first = panel.work(badge(100));
+    assert_eq!((first.event, first.credential), (event::NONE, 5));
+    let marks = mark::AUTHENTICATION_FACTOR_READ | mark::TRACE;
+    assert_eq!(first.marks, marks);
+    assert_eq!((waiting_credential(&panel), last_use(&panel)), (5, NEVER));
+    let second = panel.work(enter_code(130));
+    assert_eq!((second.event, second.credential), (event::GRANTED, 5));
+    assert_eq!((waiting_credential(&panel), last_use(&panel)), (NONE, 130));
+}
+
+#[test]
+fn a_confirming_factor_shown_first_is_unknown() {
+    let mut panel = panel(two_factor_point(), 0);
+    let answer = panel.work(enter_code(100));
+    assert_eq!(answer.event, event::DENIED_UNKNOWN_CREDENTIAL);
+    assert_eq!((answer.credential, last_use(&panel)), (NONE, NEVER));
+}
+
+#[test]
+fn while_waiting_any_other_factor_is_incorrect_and_names_the_credential_waited_for() {
+    let mut panel = panel(two_factor_point(), 0);
+    panel.work(badge(100));
+    let answer = panel.work(badge(110));
+    let incorrect = event::DENIED_INCORRECT_AUTHENTICATION_FACTOR;
+    assert_eq!((answer.event, answer.credential), (incorrect, 5));
+    assert_eq!((waiting_credential(&panel), last_use(&panel)), (NONE, 110));
+}
+
+#[test]
+fn an_expired_wait_comes_before_a_read_error_and_uses_the_factor_up() {
+    let mut panel = panel(two_factor_point(), 0);
+    panel.work(badge(100));
+    let late = panel.work(read_error(131));
+    assert_eq!(late.event, event::DENIED_AUTHENTICATION_FACTOR_TIMEOUT);
+    assert_eq!((late.credential, waiting_credential(&panel)), (5, NONE));
+    let error = panel.work(read_error(132));
+    assert_eq!(error.event, event::DENIED_AUTHENTICATION_FACTOR_ERROR);
+    assert_eq!(error.credential, NONE);
+}
+
+#[test]
+fn failures_lock_the_point_and_the_lockout_relinquishes() {
+    let mut panel = panel(two_factor_point(), 0);
+    assert_eq!(panel.work(read_error(100)).marks, 1);
+    let locking = panel.work(read_error(110));
+    let marks = mark::AUTHENTICATION_FACTOR_READ | mark::LOCKOUT_MAX_ATTEMPTS;
+    assert_eq!(locking.marks, marks);
+    let held = panel.state_of(kind::POINT, 1);
+    assert_eq!(held[point_state::LOCKOUT], 1);
+    assert_eq!(held[point_state::FAILED_ATTEMPTS], 0);
+    assert_eq!(panel.work(badge(169)).event, event::DENIED_LOCKOUT);
+    let relinquished = panel.work(badge(170));
+    assert_eq!(relinquished.event, event::NONE);
+    let marks = mark::AUTHENTICATION_FACTOR_READ | mark::LOCKOUT_RELINQUISHED;
+    assert_eq!(relinquished.marks, marks);
+}
+
+#[test]
+fn one_entry_can_relinquish_a_lockout_and_lock_again() {
+    let point = Point {
+        max_failed_attempts: 1,
+        lockout_relinquish_time: 60,
+        ..open_point()
+    };
+    let mut panel = panel(point, 0);
+    panel.work(read_error(100));
+    let answer = panel.work(read_error(160));
+    assert_eq!(answer.event, event::DENIED_AUTHENTICATION_FACTOR_ERROR);
+    let both = mark::LOCKOUT_RELINQUISHED | mark::LOCKOUT_MAX_ATTEMPTS;
+    assert_eq!(answer.marks, both | mark::AUTHENTICATION_FACTOR_READ);
+    assert_eq!(panel.work(badge(219)).event, event::DENIED_LOCKOUT);
+}
+
+#[test]
+fn the_failure_window_runs_from_the_first_failure() {
+    let point = Point {
+        max_failed_attempts: 3,
+        failed_attempts_time: 10,
+        ..open_point()
+    };
+    let mut panel = panel(point, 0);
+    let mut failures_at = |time: u32| {
+        panel.work(read_error(time));
+        panel.state_of(kind::POINT, 1)[point_state::FAILED_ATTEMPTS]
+    };
+    assert_eq!(failures_at(100), 1);
+    assert_eq!(failures_at(110), 2, "elapsed equal to the window");
+    assert_eq!(failures_at(111), 1, "elapsed above the window");
+    assert_eq!(failures_at(50), 2, "a clock set back");
+}
+
+#[test]
+fn a_point_out_of_service_changes_nothing() {
+    let point = Point {
+        flags: point_flag::OUT_OF_SERVICE,
+        ..open_point()
+    };
+    let mut panel = panel(point, 0);
+    panel.work(EntryFields::set_lockout(100, 1, false));
+    let before = panel.state.clone();
+    let answer = panel.work(badge(100));
+    assert_eq!((answer.event, answer.marks), (event::NONE, 0));
+    assert_eq!((answer.tag, answer.credential), (1, NONE));
+    assert_eq!(panel.state, before);
+}
+
+#[test]
+fn soft_passback_is_marked_and_counted_and_stays_on_a_later_denial() {
+    let mut panel = Panel::fresh(&[
+        Zone {
+            flags: zone_flag::OCCUPANCY_COUNT_ENABLE,
+            passback_mode: passback_mode::SOFT_PASSBACK,
+            upper_limit: 2,
+            ..Zone::new(7)
+        }
+        .record(),
+        Point {
+            flags: point_flag::OCCUPANCY_COUNT_ADJUST | point_flag::OCCUPANCY_UPPER_LIMIT_ENFORCED,
+            zone_to: 7,
+            ..open_point()
+        }
+        .record(),
+        Credential::new(5).record(),
+        Factor::new(5, CARD).record(),
+    ]);
+    let detected = mark::AUTHENTICATION_FACTOR_READ | mark::PASSBACK_DETECTED;
+    assert_eq!(panel.work(badge(100)).marks, 1);
+    let again = panel.work(badge(110));
+    assert_eq!((again.event, again.count), (event::GRANTED, 2));
+    assert_eq!(again.marks, detected);
+    let full = panel.work(badge(120));
+    assert_eq!(full.event, event::DENIED_UPPER_OCCUPANCY_LIMIT);
+    assert_eq!(full.marks, detected);
+}
+
+#[test]
+fn a_full_count_denies_masters_too() {
+    let mut panel = Panel::fresh(&[
+        Zone {
+            flags: zone_flag::OCCUPANCY_COUNT_ENABLE,
+            ..Zone::new(7)
+        }
+        .record(),
+        Point {
+            flags: point_flag::OCCUPANCY_COUNT_ADJUST,
+            authorization_mode: authorization_mode::DENY_ALL,
+            zone_to: 7,
+            ..Point::new(1)
+        }
+        .record(),
+        Credential {
+            flags: credential_flag::MASTER_EXEMPTION,
+            ..Credential::new(5)
+        }
+        .record(),
+        Factor::new(5, CARD).record(),
+    ]);
+    panel.work(EntryFields::set_count(100, 7, MOST_COUNT - 1));
+    let last = panel.work(badge(100));
+    assert_eq!((last.event, last.count), (event::GRANTED, MOST_COUNT));
+    let full = panel.work(badge(100));
+    assert_eq!((full.event, full.count), (event::DENIED_OTHER, MOST_COUNT));
+}
