@@ -82,7 +82,7 @@ unfolding after
 after-append [] fs ps = refl
 after-append (e ∷ es) fs ps = after-append es fs (apply (entryOutcome ps e) ps)
 
-answers-append : (es fs : List Entry) (ps : Panel) → answers ps (es ++ fs) ≡ answers ps es ++ answers (after ps es) fs
+pub answers-append : (es fs : List Entry) (ps : Panel) → answers ps (es ++ fs) ≡ answers ps es ++ answers (after ps es) fs
 unfolding after answers
 answers-append [] fs ps = refl
 answers-append (e ∷ es) fs ps = ap (λ rs. entryOutcome ps e .answer ∷ rs) (answers-append es fs (apply (entryOutcome ps e) ps))
@@ -100,7 +100,7 @@ with-append (e ∷ es) fs (a ∷ as′) bs h = ap (λ ws. record { entry = e; an
 
 -- ── the answers' buffer
 
-answers-sized : (rs : List Answer) → Sized 16 (map answerBytes rs) ≡ true
+pub answers-sized : (rs : List Answer) → Sized 16 (map answerBytes rs) ≡ true
 answers-sized [] = refl
 answers-sized (r ∷ rs) = rw (length-answer r) (answers-sized rs)
 

@@ -70,7 +70,7 @@ apply-refuse n ps = refl
 -- ── the i-th entry of a run
 
 -- One entry more than the first i.
-after-next : (es : List Entry) (i : ℕ) (d : Entry) (ps : Panel) → i < length es →
+pub after-next : (es : List Entry) (i : ℕ) (d : Entry) (ps : Panel) → i < length es →
     after ps (take (suc i) es) ≡ apply (entryOutcome (after ps (take i es)) (getD es i d)) (after ps (take i es))
 unfolding after
 after-next es i d ps h = ap (after ps) (take-suc es i d h) ∙ after-append (take i es) (getD es i d ∷ []) ps

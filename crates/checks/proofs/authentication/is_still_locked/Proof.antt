@@ -1,0 +1,10 @@
+use Rattle.model.specs.Checks.{stillLocked}
+use Rattle.checks.proofs.authentication.is_still_locked.Statement.{statement}
+use Rattle.checks.proofs.authentication.is_still_locked.Tie as tie
+
+pub is-still-locked-spec : {M : Type 1} → statement M
+unfolding stillLocked
+is-still-locked-spec =
+    tie.close
+    (tie.spec
+    (λ c κs. tt) (λ c. rw (c .before .is-relinquished .ensures)))

@@ -1,0 +1,9 @@
+use mathlib.Core.Path.{refl}
+use Rattle.model.specs.State.{freshPoint}
+use Rattle.model.specs.Step.{noPoint}
+use Rattle.effects.proofs.operations.no_point.Statement.{statement}
+use Rattle.effects.proofs.operations.no_point.Tie as tie
+
+pub no-point-spec : {M : Type 1} → statement M
+unfolding freshPoint noPoint
+no-point-spec = tie.close (tie.spec (λ c. refl))

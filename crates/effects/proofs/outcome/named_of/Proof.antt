@@ -1,0 +1,10 @@
+use Rattle.model.specs.Effects.{named}
+use Rattle.effects.proofs.outcome.named_of.Statement.{statement}
+use Rattle.effects.proofs.outcome.named_of.Tie as tie
+
+pub named-of-spec : {M : Type 1} → statement M
+unfolding named
+named-of-spec =
+    tie.close
+    (tie.spec
+    (λ c κs. tt) (λ c κs. tt) (λ c. rw (c .choose-long .ensures, c .before .is-waiting .ensures)))

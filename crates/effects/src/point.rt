@@ -1,0 +1,114 @@
+// What a factor read leaves at the point: failures, lockout, wait.
+ghost use mathlib.Core.Path.{_≡_};
+ghost use mathlib.Core.Bool.{_&&_, _||_};
+ghost use lib.Dec.{leb};
+ghost use Rattle.model.specs.Words.{if_then_else_};
+ghost use Rattle.model.specs.Effects.{isFailure, failuresBefore, isFirstFailure, failuresWith, locksOut, pointAfter};
+use crate::words::next_tag;
+use crate::words::of_byte;
+use crate::words::one_more;
+use checks::authentication::is_relinquished;
+use checks::authentication::is_still_locked;
+use checks::numbers::DENIED_AUTHENTICATION_FACTOR_ERROR;
+use checks::numbers::DENIED_AUTHENTICATION_FACTOR_TIMEOUT;
+use checks::numbers::DENIED_INCORRECT_AUTHENTICATION_FACTOR;
+use checks::numbers::DENIED_LOCKOUT;
+use checks::numbers::DENIED_UNKNOWN_CREDENTIAL;
+use checks::numbers::GRANTED;
+use checks::numbers::NO_EVENT;
+use checks::numbers::NONE;
+use checks::words::choose_byte;
+use checks::words::choose_long;
+use checks::words::choose_short;
+use checks::words::elapsed;
+use model::Entry;
+use model::PointState;
+use model::View;
+
+// The event is a failure, at a point that counts failures.
+pub fn is_failure(v: View, x: u16) -> bool
+    ensures { λ r. ⌜ r ≡ isFailure v x ⌝ }
+{
+    (v.point.most_failures != 0)
+        & ((x == DENIED_UNKNOWN_CREDENTIAL)
+            | (x == DENIED_AUTHENTICATION_FACTOR_TIMEOUT)
+            | (x == DENIED_INCORRECT_AUTHENTICATION_FACTOR)
+            | (x == DENIED_AUTHENTICATION_FACTOR_ERROR))
+}
+
+// The failures so far: none where the lock was relinquished.
+pub fn failures_before(v: View, e: Entry) -> u8
+    ensures { λ r. ⌜ r ≡ failuresBefore v e ⌝ }
+{
+    choose_byte(is_relinquished(v, e), 0, v.point_state.failures)
+}
+
+// A failure would be the first since zero, or the first of a new window.
+pub fn is_first_failure(v: View, e: Entry) -> bool
+    ensures { λ r. ⌜ r ≡ isFirstFailure v e ⌝ }
+{
+    (failures_before(v, e) == 0)
+        | ((v.point.failure_window != 0)
+            & (v.point.failure_window < elapsed(e.time, v.point_state.first_failure)))
+}
+
+// The failures with this one; 256 needs a second byte.
+pub fn failures_with(v: View, e: Entry) -> u16
+    ensures { λ r. ⌜ r ≡ failuresWith v e ⌝ }
+{
+    choose_short(is_first_failure(v, e), 1, one_more(failures_before(v, e)))
+}
+
+// The event is the failure that locks the point.
+pub fn locks_out(v: View, e: Entry, x: u16) -> bool
+    ensures { λ r. ⌜ r ≡ locksOut v e x ⌝ }
+{
+    is_failure(v, x) & (of_byte(v.point.most_failures) <= failures_with(v, e))
+}
+
+// The failures that are kept: those with this one are kept only below the most, where they have one byte.
+fn failures_after(granted: bool, failing: bool, most: u8, with: u16, before: u8) -> u8
+    ensures { λ r. ⌜ r ≡ if granted || failing && leb most with then 0 else if failing then with else before ⌝ }
+{
+    if granted {
+        return 0;
+    }
+    if failing {
+        if most as u16 <= with {
+            return 0;
+        }
+        return with as u8;
+    }
+    before
+}
+
+// The point's state after the event.
+pub fn point_after(v: View, e: Entry, x: u16) -> PointState
+    ensures { λ r. ⌜ r ≡ pointAfter v e x ⌝ }
+{
+    let failing = is_failure(v, x);
+    let locking = locks_out(v, e, x);
+    PointState {
+        tag: next_tag(v.point_state.tag),
+        failures: failures_after(
+            x == GRANTED,
+            failing,
+            v.point.most_failures,
+            failures_with(v, e),
+            failures_before(v, e),
+        ),
+        locked: locking | is_still_locked(v, e),
+        lock_time: choose_long(locking, e.time, v.point_state.lock_time),
+        first_failure: choose_long(
+            failing & is_first_failure(v, e),
+            e.time,
+            v.point_state.first_failure,
+        ),
+        waiting_credential: choose_long(
+            x == NO_EVENT,
+            v.number,
+            choose_long(x == DENIED_LOCKOUT, v.point_state.waiting_credential, NONE),
+        ),
+        waiting_since: choose_long(x == NO_EVENT, e.time, v.point_state.waiting_since),
+    }
+}

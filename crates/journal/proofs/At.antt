@@ -1,0 +1,174 @@
+-- What is read and written at a record's place is what the panel of site and state has there.
+use Prim.Native.Nat.{ℕ, zero, suc, _+_, _-_, _*_, _/_, _%_, _≤_, _<_}
+use native.Mathlib.Omega.{arith}
+use native.Mathlib.Nat.{suc-mul, add-comm}
+use mathlib.Core.Path.{_≡_, refl, sym, _∙_, ap, ap₂}
+use mathlib.Core.List.{List, [], _∷_, _++_, append-assoc, map, flatten}
+use mathlib.Core.Bool.{Bool, true, false, not, _&&_}
+use lib.Dec.{eqb, ltb}
+use lib.ListN.{length, take, drop, getD, set, length-append, length-take, length-drop, length-map}
+use lib.Seq.{take-at, drop-at, take-add, drop-drop, length-take-le}
+use borrow.Author.Tests.{lt-ltb, not-true}
+use Rattle.octets.specs.Octets.{groups}
+use Rattle.octets.proofs.Groups.{length-groups, joined-back, group-rest}
+use Rattle.model.specs.Words.{if_then_else_, all}
+use Rattle.model.specs.Numbers as n
+use Rattle.model.specs.Numbers.{NONE}
+use Rattle.model.specs.Site.{records, isAt}
+use Rattle.model.specs.State.{Pair, Panel, paired, panel, sites, stateOf, findBy, find, seek, store, write, zoneBytes, pointBytes, credentialBytes}
+use Rattle.model.specs.Step.{apply}
+use Rattle.model.proofs.Laws.{and-left, and-right}
+use Rattle.model.proofs.Flat.{sites-panel, panel-stateOf, length-stateOf}
+use Rattle.model.proofs.RoundTrip.{length-zone, length-point, length-credential}
+use Rattle.site.specs.Place.{placeFrom, placeOf}
+use Rattle.journal.specs.Places.{partAt, seekPlace, storedAt, stored, written, applied, Placed}
+use Rattle.site.specs.declared.Place.{Place}
+use Rattle.site.specs.declared.Place.the-variants.{At, Nothing}
+use Rattle.journal.specs.declared.Places.{Places}
+use Rattle.model.specs.declared.Outcome.{Outcome}
+
+-- ── a panel, and the place of a record among its site records
+
+-- What a place says of a panel, its first record counted as `from`: the record there is what is found and what is written, or nothing is.
+unfoldable pub Standing : (k i from : ℕ) → Panel → Place → Type 0
+Standing k i from ps (At j) =
+    (from ≤ j) × (j - from < length ps) × (findBy (isAt k i) ps ≡ getD ps (j - from) ([], []))
+    × ((b : List ℕ) → store k i b ps ≡ set ps (j - from) (getD ps (j - from) ([], []) .0, b))
+Standing k i from ps Nothing = (findBy (isAt k i) ps ≡ ([], [])) × ((b : List ℕ) → store k i b ps ≡ ps)
+
+later : (k i from : ℕ) (x : Pair) (ps : Panel) (p : Place) → isAt k i (x .0) ≡ false → Standing k i (suc from) ps p → Standing k i from (x ∷ ps) p
+unfolding Standing store
+later k i from x ps (At j) e h =
+    let d : j - from ≡ suc (j - suc from) = omega (arith, h .0) in
+    (omega (arith, h .0), omega (arith, h .0, h .1), rw (d, e) (h .2), λ b. rw (d, e) (ap (λ qs. x ∷ qs) (h .3 b)))
+later k i from x ps Nothing e h = (rw e (h .0), λ b. rw e (ap (λ qs. x ∷ qs) (h .1 b)))
+
+pub stands : (k i from : ℕ) (ps : Panel) → Standing k i from ps (placeFrom (isAt k i) from (sites ps))
+unfolding Standing placeFrom store
+stands k i from [] = (refl, λ b. refl)
+stands k i from (x ∷ ps) = go (isAt k i (x .0)) refl (stands k i (suc from) ps)
+  where
+    go : (c : Bool) → isAt k i (x .0) ≡ c → Standing k i (suc from) ps (placeFrom (isAt k i) (suc from) (sites ps)) →
+        Standing k i from (x ∷ ps) (if c then At from else placeFrom (isAt k i) (suc from) (sites ps))
+    go true e h = let d : from - from ≡ 0 = omega arith in (omega arith, omega arith, rw (d, e), λ b. rw (d, e))
+    go false e h = later k i from x ps (placeFrom (isAt k i) (suc from) (sites ps)) e h
+
+-- ── the j-th record of the panel of site and state
+
+pub getD-paired : (k j : ℕ) (site state : List ℕ) → j < k →
+    getD (paired k site state) j ([], []) ≡ (getD (groups 32 k site) j [], getD (groups 32 k state) j [])
+unfolding paired groups
+getD-paired zero j site state h = absurd (omega arith)
+getD-paired (suc k) zero site state h = refl
+getD-paired (suc k) (suc j) site state h = getD-paired k j (drop 32 site) (drop 32 state) (omega arith)
+
+paired-stored : (k j : ℕ) (site state b : List ℕ) → j < k → k * 32 ≤ length state → length b ≡ 32 →
+    paired k site (storedAt j b state) ≡ set (paired k site state) j (getD (paired k site state) j ([], []) .0, b)
+unfolding paired storedAt
+paired-stored zero j site state b h fits l = absurd (omega arith)
+paired-stored (suc k) zero site state b h fits l = rw (take-at b (drop 32 state) 32 l, drop-at b (drop 32 state) 32 l)
+paired-stored (suc k) (suc j) site state b h fits l =
+    let m : suc j * 32 ≡ 32 + j * 32 = omega arith in
+    let e : 32 + j * 32 + 32 ≡ 32 + (j * 32 + 32) = omega arith in
+    let w : length (take 32 state) ≡ 32 = length-take-le 32 state (omega arith) in
+    let t : take (suc j * 32) state ++ (b ++ drop (suc j * 32 + 32) state) ≡ take 32 state ++ storedAt j b (drop 32 state) =
+        rw (m, e, take-add 32 (j * 32) state, ← drop-drop (j * 32 + 32) 32 state) (append-assoc (take 32 state) (take (j * 32) (drop 32 state)) (b ++ drop (j * 32 + 32) (drop 32 state))) in
+    rw (t, take-at (take 32 state) (storedAt j b (drop 32 state)) 32 w, drop-at (take 32 state) (storedAt j b (drop 32 state)) 32 w)
+    (ap (λ qs. (take 32 site, take 32 state) ∷ qs) (paired-stored k j (drop 32 site) (drop 32 state) b (omega arith) (simp length-drop (omega arith)) l))
+
+-- The state records of the panel are the groups of the state.
+states : (k : ℕ) (site state : List ℕ) → map (λ (x : Pair). x .1) (paired k site state) ≡ groups 32 k state
+unfolding paired groups
+states zero site state = refl
+states (suc k) site state = ap (λ ts. take 32 state ∷ ts) (states k (drop 32 site) (drop 32 state))
+
+-- ── site and state of one length
+
+module _ (site state : List ℕ) (whole-site : length site % 32 ≡ 0) (same-length : length state ≡ length site) where
+  records-at : (j : ℕ) → j < length site / 32 →
+      getD (panel site state) j ([], []) ≡ (partAt (At j) site, partAt (At j) state)
+  unfolding panel
+  records-at j h =
+      rw same-length (getD-paired (length site / 32) j site state h)
+
+  length-panel : length (panel site state) ≡ length site / 32
+  unfolding records
+  length-panel = sym (length-map (panel site state) (λ (x : Pair). x .0)) ∙ ap length (sites-panel site state) ∙ length-groups 32 (length site / 32) site
+
+  standing-here : (k i : ℕ) → Standing k i 0 (panel site state) (placeOf k i site)
+  unfolding placeOf
+  standing-here k i = rw (sites-panel site state) at (stands k i 0 (panel site state))
+
+  -- The place of a record, from the first.
+  placed : (k i j : ℕ) → Standing k i 0 (panel site state) (At j) →
+      (j < length site / 32) × (findBy (isAt k i) (panel site state) ≡ getD (panel site state) j ([], []))
+      × ((b : List ℕ) → store k i b (panel site state) ≡ set (panel site state) j (getD (panel site state) j ([], []) .0, b))
+  unfolding Standing
+  placed k i j h =
+      let z : j - 0 ≡ j = omega arith in
+      (omega (arith, h .1, length-panel), rw z at (h .2), λ b. rw z at (h .3 b))
+
+  -- What is found is at its place, in the site and in the state.
+  pub find-at : (k i : ℕ) → find k i (panel site state) ≡ (partAt (placeOf k i site) site, partAt (placeOf k i site) state)
+  unfolding find Standing
+  find-at k i = go (placeOf k i site) (standing-here k i)
+    where
+      go : (p : Place) → Standing k i 0 (panel site state) p → findBy (isAt k i) (panel site state) ≡ (partAt p site, partAt p state)
+      go (At j) h = let q = placed k i j h in q .1 ∙ records-at j (q .0)
+      go Nothing h = h .0
+
+  pub seek-at : (k i : ℕ) → seek k i (panel site state) ≡ (partAt (seekPlace k i site) site, partAt (seekPlace k i site) state)
+  unfolding seek seekPlace
+  seek-at k i = go (eqb i NONE)
+    where
+      go : (c : Bool) → (if c then ([], []) else find k i (panel site state)) ≡ (partAt (if c then Nothing else placeOf k i site) site, partAt (if c then Nothing else placeOf k i site) state)
+      go true = refl
+      go false = find-at k i
+
+  -- A record of 32 bytes stored at its place is stored in the panel; the state keeps its length.
+  store-at : (k i : ℕ) (b : List ℕ) → length b ≡ 32 → (p : Place) → Standing k i 0 (panel site state) p →
+      (panel site (stored p b state) ≡ store k i b (panel site state)) × (length (stored p b state) ≡ length site)
+  unfolding Standing
+  store-at k i b l (At j) h =
+      let q = placed k i j h in
+      let t : ltb j (length state / 32) ≡ true = lt-ltb j (length state / 32) (omega (arith, q .0)) in
+      rw t (unfold panel in (paired-stored (length site / 32) j site state b (q .0) (omega arith) l ∙ sym (q .2 b)),
+      unfold storedAt in (simp (length-append, length-take, length-drop) (omega (arith, q .0, l))))
+  store-at k i b l Nothing h = (sym (h .1 b), same-length)
+
+  pub write-at : (on : Bool) (k i : ℕ) (b : List ℕ) (p : Place) → length b ≡ 32 → (eqb i NONE ≡ false → p ≡ placeOf k i site) →
+      (panel site (written on i p b state) ≡ write on k i b (panel site state)) × (length (written on i p b state) ≡ length site)
+  unfolding written write
+  write-at on k i b p l e = go (on && not (eqb i NONE)) refl
+    where
+      go : (c : Bool) → on && not (eqb i NONE) ≡ c →
+          (panel site (if c then stored p b state else state) ≡ (if c then store k i b (panel site state) else panel site state)) × (length (if c then stored p b state else state) ≡ length site)
+      go true h =
+          rw (e (not-true (eqb i NONE) (and-right on (not (eqb i NONE)) h))) (store-at k i b l (placeOf k i site) (standing-here k i))
+      go false h = (refl, same-length)
+
+-- ── an outcome
+
+pub apply-at : (site state : List ℕ) → length site % 32 ≡ 0 → length state ≡ length site → (o : Outcome) (at : Places) → Placed site o at →
+    (panel site (applied o at state) ≡ apply o (panel site state)) × (length (applied o at state) ≡ length site)
+unfolding applied apply
+apply-at site state w l o at h =
+    let a = write-at site state w l (o .«zone_from» .written) 1 (o .«zone_from» .instance) (zoneBytes (o .«zone_from» .count)) (at .«zone_from») (length-zone _) (h .zone-from) in
+    let b = write-at site _ w (a .1) (o .«zone_to» .written) 1 (o .«zone_to» .instance) (zoneBytes (o .«zone_to» .count)) (at .«zone_to») (length-zone _) (h .zone-to) in
+    let c = write-at site _ w (b .1) (o .credential .written) 4 (o .credential .instance) (credentialBytes (o .credential .state)) (at .credential) (length-credential _) (h .credential) in
+    let d = write-at site _ w (c .1) (o .point .written) 2 (o .point .instance) (pointBytes (o .point .state)) (at .point) (length-point _) (h .point) in
+    (d .0 ∙ ap (write _ 2 _ _) (c .0 ∙ ap (write _ 4 _ _) (b .0 ∙ ap (write _ 1 _ _) (a .0))), d .1)
+
+-- The state is what its panel holds.
+pub state-of : (site state : List ℕ) → length site % 32 ≡ 0 → length state ≡ length site → stateOf (panel site state) ≡ state
+unfolding panel stateOf
+state-of site state w l = go (length site / 32) site state (omega arith)
+  where
+    go : (k : ℕ) (site state : List ℕ) → length state ≡ k * 32 → stateOf (paired k site state) ≡ state
+    go k site state h = ap flatten (states k site state) ∙ joined-back 32 k state h
+
+-- A part that was lent to a writer of 32 bytes comes back as a stored record.
+pub stored-back : (i : ℕ) (b g state : List ℕ) → g ≡ b →
+    take (i * 32) state ++ (g ++ drop (i * 32 + 32 - i * 32) (drop (i * 32) state)) ≡ storedAt i b state
+unfolding storedAt
+stored-back i b g state e = rw (e, group-rest 32 i state)

@@ -1,0 +1,82 @@
+use mathlib.Core.Path.{_≡_, refl, sym, _∙_, ap, ap₂}
+use denote.Ref.{now}
+use Rattle.model.specs.Numbers as n
+use Rattle.model.specs.Site.{pointOf}
+use Rattle.model.specs.State.{pointStateOf}
+use Rattle.model.specs.Step.{noAnswer, unchanged}
+use Rattle.journal.specs.Decide.{atObject}
+use Rattle.journal.proofs.Decisions.{decided-away, decided-read}
+use Rattle.model.specs.declared.Point.{Point}
+use Rattle.model.specs.declared.PointState.{PointState}
+use borrow.Author.Needs.{needs}
+use Rattle.journal.proofs.decide.factor_decided.Statement.{statement}
+use Rattle.journal.proofs.decide.factor_decided.Tie as tie
+
+part-at-requires : tie.Need-part-at-requires
+part-at-requires c κs = search needs
+
+point-of-requires : tie.Need-point-of-requires
+point-of-requires c κs = search needs
+
+part-at-requires-2 : tie.Need-part-at-requires-2
+part-at-requires-2 c κs = search needs
+
+point-state-of-requires : tie.Need-point-state-of-requires
+point-state-of-requires c κs = search needs
+
+count-to-requires : tie.Need-count-to-requires
+count-to-requires c κs = search needs
+
+out-of-service-outcome-requires : tie.Need-out-of-service-outcome-requires
+out-of-service-outcome-requires c κs = search needs
+
+at-object-requires : tie.Need-at-object-requires
+at-object-requires c κs = search needs
+
+returns : tie.Need-returns
+returns c = 
+    let s = c .before .before .before .before .before .before .before .before .before .before in
+    let a = s .args in
+    decided-away (now (a .site)) (now (a .state)) (s .pre .0 .0) (s .pre .0 .1) (a .e) (a .place) _ (s .pre .1)
+    (ap (λ (p : Point). p .«out_of_service») (sym (c .before .before .before .before .before .before .point-of .ensures ∙ ap pointOf (c .before .before .before .before .before .before .before .part-at .ensures .0))) ∙ c .before .before .before .before .before .if1 .taken)
+    (c .at-object .ensures
+    ∙ ap (λ o. atObject o (a .place))
+    (c .before .out-of-service-outcome .ensures
+    ∙ ap₂ (λ tag counted. unchanged (noAnswer n.not-refused tag counted))
+    (ap (λ (p : PointState). p .tag) (c .before .before .before .point-state-of .ensures ∙ ap pointStateOf (c .before .before .before .before .part-at2 .ensures .0)))
+    (c .before .before .count-to .ensures)))
+
+gather-requires : tie.Need-gather-requires
+gather-requires c κs = search needs
+
+rules-for-requires : tie.Need-rules-for-requires
+rules-for-requires c κs = search needs
+
+factor-outcome-requires : tie.Need-factor-outcome-requires
+factor-outcome-requires c κs = search needs
+
+returns-2 : tie.Need-returns-2
+returns-2 c = 
+    let s = c .before .before .before .before .before .before .before .before .before .before in
+    let a = s .args in
+    let g = c .before .before .before .before .gather .ensures in
+    decided-read (now (a .site)) (now (a .state)) (s .pre .0 .0) (s .pre .0 .1) (a .e) (a .place) _ (s .pre .1)
+    (ap (λ (p : Point). p .«out_of_service») (sym (c .before .before .before .before .before .before .point-of .ensures ∙ ap pointOf (c .before .before .before .before .before .before .before .part-at .ensures .0))) ∙ c .before .before .before .before .before .if1 .left)
+    (c .before .rules-for .result) (rw g at (c .before .rules-for .ensures)) (rw (c .factor-outcome .ensures, g))
+
+pub factor-decided-spec : {M : Type 1} → statement M
+factor-decided-spec =
+    tie.close
+    (tie.spec
+    part-at-requires
+    point-of-requires
+    part-at-requires-2
+    point-state-of-requires
+    count-to-requires
+    out-of-service-outcome-requires
+    at-object-requires
+    returns
+    gather-requires
+    rules-for-requires
+    factor-outcome-requires
+    returns-2)

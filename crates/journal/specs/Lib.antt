@@ -1,0 +1,4 @@
+pub mod Places
+pub mod Gather
+pub mod Decide
+pub mod Run

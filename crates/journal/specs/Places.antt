@@ -1,0 +1,53 @@
+-- Records of lent bytes by their places: what is read there, and what a write there leaves.
+use Prim.Native.Nat.{ℕ, _+_, _*_, _/_}
+use mathlib.Core.Path.{_≡_}
+use mathlib.Core.List.{List, [], _++_}
+use mathlib.Core.Bool.{Bool, true, false, not, _&&_}
+use lib.Dec.{eqb, ltb}
+use lib.ListN.{length, take, drop, getD}
+use Rattle.octets.specs.Octets.{groups}
+use Rattle.model.specs.Words.{if_then_else_}
+use Rattle.model.specs.Numbers as n
+use Rattle.model.specs.Numbers.{NONE}
+use Rattle.model.specs.State.{zoneBytes, pointBytes, credentialBytes}
+use Rattle.site.specs.Place.{placeOf}
+use Rattle.site.specs.declared.Place.{Place}
+use Rattle.site.specs.declared.Place.the-variants.{At, Nothing}
+use Rattle.model.specs.declared.Outcome.{Outcome}
+use Rattle.journal.specs.declared.Places.{Places}
+
+-- The record at a place; the empty list where there is none.
+abbrev pub partAt : Place → List ℕ → List ℕ
+partAt (At i) bytes = getD (groups n.record-size (length bytes / n.record-size) bytes) i []
+partAt Nothing bytes = []
+
+-- The place of what a reference names.
+unfoldable pub seekPlace : ℕ → ℕ → List ℕ → Place
+seekPlace k i site = if eqb i NONE then Nothing else placeOf k i site
+
+-- The state with the record at a place made `b`.
+unfoldable pub storedAt : ℕ → List ℕ → List ℕ → List ℕ
+storedAt i b state = take (i * n.record-size) state ++ (b ++ drop (i * n.record-size + n.record-size) state)
+
+abbrev pub stored : Place → List ℕ → List ℕ → List ℕ
+stored (At i) b state = if ltb i (length state / n.record-size) then storedAt i b state else state
+stored Nothing b state = state
+
+-- The same where the flag is set and the instance is not NONE.
+unfoldable pub written : Bool → ℕ → Place → List ℕ → List ℕ → List ℕ
+written on i place b state = if on && not (eqb i NONE) then stored place b state else state
+
+-- The state after an outcome whose records stand at those places.
+unfoldable pub applied : Outcome → Places → List ℕ → List ℕ
+applied o at state =
+    written (o .point .written) (o .point .instance) (at .point) (pointBytes (o .point .state))
+    (written (o .credential .written) (o .credential .instance) (at .credential) (credentialBytes (o .credential .state))
+    (written (o .«zone_to» .written) (o .«zone_to» .instance) (at .«zone_to») (zoneBytes (o .«zone_to» .count))
+    (written (o .«zone_from» .written) (o .«zone_from» .instance) (at .«zone_from») (zoneBytes (o .«zone_from» .count)) state)))
+
+-- The places are those of the records that the outcome names.
+pub record Placed (site : List ℕ) (o : Outcome) (at : Places) : Type 0 where
+  pub point : eqb (o .point .instance) NONE ≡ false → at .point ≡ placeOf n.access-point (o .point .instance) site
+  pub credential : eqb (o .credential .instance) NONE ≡ false → at .credential ≡ placeOf n.access-credential (o .credential .instance) site
+  pub zone-to : eqb (o .«zone_to» .instance) NONE ≡ false → at .«zone_to» ≡ placeOf n.access-zone (o .«zone_to» .instance) site
+  pub zone-from : eqb (o .«zone_from» .instance) NONE ≡ false → at .«zone_from» ≡ placeOf n.access-zone (o .«zone_from» .instance) site

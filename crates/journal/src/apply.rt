@@ -1,0 +1,109 @@
+// The state records that an outcome writes: each is lent, as its 32-byte part of the state, to its writer.
+ghost use mathlib.Core.Path.{_≡_};
+ghost use Prim.Native.Nat.{_/_, _<_};
+ghost use lib.ListN.{length};
+ghost use Rattle.model.specs.State.{zoneBytes, pointBytes, credentialBytes};
+ghost use Rattle.journal.specs.Places.{storedAt, written, applied};
+use super::Places;
+use checks::numbers;
+use model::CountWrite;
+use model::CredentialState;
+use model::CredentialWrite;
+use model::Outcome;
+use model::PointState;
+use model::PointWrite;
+use site::Place;
+
+fn store_count(state: &mut [u8], i: usize, count: u32)
+    requires { ⌜ i < length (now state) / 32 ⌝ }
+    ensures { λ _. ⌜ now (state .exit) ≡ storedAt i (zoneBytes count) (now (state .entry)) ⌝ }
+{
+    let start = i * 32;
+    let end = start + 32;
+    records::write_count(&mut state[start..end], count);
+}
+
+fn store_point(state: &mut [u8], i: usize, p: PointState)
+    requires { ⌜ i < length (now state) / 32 ⌝ }
+    ensures { λ _. ⌜ now (state .exit) ≡ storedAt i (pointBytes p) (now (state .entry)) ⌝ }
+{
+    let start = i * 32;
+    let end = start + 32;
+    records::write_point(&mut state[start..end], p);
+}
+
+fn store_credential(state: &mut [u8], i: usize, c: CredentialState)
+    requires { ⌜ i < length (now state) / 32 ⌝ }
+    ensures { λ _. ⌜ now (state .exit) ≡ storedAt i (credentialBytes c) (now (state .entry)) ⌝ }
+{
+    let start = i * 32;
+    let end = start + 32;
+    records::write_credential(&mut state[start..end], c);
+}
+
+fn write_count(state: &mut [u8], w: CountWrite, place: Place)
+    ensures { λ _. ⌜ now (state .exit) ≡ written (w .written) (w .instance) place (zoneBytes (w .count)) (now (state .entry)) ⌝ }
+{
+    if !(w.written & !(w.instance == numbers::NONE)) {
+        return;
+    }
+    match place {
+        Place::At(i) => {
+            if i < state.len() / 32 {
+                store_count(state, i, w.count);
+            }
+        }
+        Place::Nothing => {}
+    }
+}
+
+fn write_credential(state: &mut [u8], w: CredentialWrite, place: Place)
+    ensures { λ _. ⌜ now (state .exit) ≡ written (w .written) (w .instance) place (credentialBytes (w .state)) (now (state .entry)) ⌝ }
+{
+    if !(w.written & !(w.instance == numbers::NONE)) {
+        return;
+    }
+    match place {
+        Place::At(i) => {
+            if i < state.len() / 32 {
+                let c = w.state;
+                store_credential(state, i, c);
+            }
+        }
+        Place::Nothing => {}
+    }
+}
+
+fn write_point(state: &mut [u8], w: PointWrite, place: Place)
+    ensures { λ _. ⌜ now (state .exit) ≡ written (w .written) (w .instance) place (pointBytes (w .state)) (now (state .entry)) ⌝ }
+{
+    if !(w.written & !(w.instance == numbers::NONE)) {
+        return;
+    }
+    match place {
+        Place::At(i) => {
+            if i < state.len() / 32 {
+                let p = w.state;
+                store_point(state, i, p);
+            }
+        }
+        Place::Nothing => {}
+    }
+}
+
+pub fn apply_outcome(state: &mut [u8], o: Outcome, at: Places)
+    ensures { λ _. ⌜ now (state .exit) ≡ applied o at (now (state .entry)) ⌝ }
+{
+    let from = o.zone_from;
+    let to = o.zone_to;
+    let credential = o.credential;
+    let point = o.point;
+    let from_at = at.zone_from;
+    let to_at = at.zone_to;
+    let credential_at = at.credential;
+    let point_at = at.point;
+    write_count(state, from, from_at);
+    write_count(state, to, to_at);
+    write_credential(state, credential, credential_at);
+    write_point(state, point, point_at);
+}

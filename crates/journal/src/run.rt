@@ -1,0 +1,40 @@
+// All entries of a journal, in turn.
+ghost use mathlib.Core.Path.{_≡_};
+ghost use mathlib.Core.List.{map, flatten, _++_};
+ghost use Prim.Native.Nat.{_+_, _*_, _/_, _%_, _<_};
+ghost use lib.ListN.{length, take, drop};
+ghost use Rattle.model.specs.State.{panel, stateOf};
+ghost use Rattle.model.specs.Entry.{entryOf, entries, answerBytes};
+ghost use Rattle.model.specs.Step as m;
+ghost use Rattle.journal.specs.Run.{answeredAt};
+use super::Cursor;
+use super::step::step;
+use model::Answer;
+
+// The k-th answer is written to its own 16 bytes.
+fn put_answer(answers: &mut [u8], k: usize, a: Answer)
+    requires { ⌜ k < length (now answers) / 16 ⌝ }
+    ensures { λ _. ⌜ now (answers .exit) ≡ answeredAt k (answerBytes a) (now (answers .entry)) ⌝ }
+{
+    let start = k * 16;
+    let end = start + 16;
+    records::write_answer(&mut answers[start..end], a);
+}
+
+pub fn run(site: &[u8], state: &mut [u8], journal: &[u8], answers: &mut [u8])
+    requires { ⌜ (length (now site) % 32 ≡ 0) × (length (now state) ≡ length (now site)) ⌝ }
+    requires { ⌜ length (now answers) ≡ length (now journal) / 24 * 16 ⌝ }
+    ensures { λ _. ⌜ now (state .exit) ≡ stateOf (m.after (panel (now (site .entry)) (now (state .entry))) (map entryOf (entries (now (journal .entry))))) ⌝ }
+    ensures { λ _. ⌜ now (answers .exit) ≡ flatten (map answerBytes (m.answers (panel (now (site .entry)) (now (state .entry))) (map entryOf (entries (now (journal .entry)))))) ⌝ }
+{
+    let n = journal.len() / 24;
+    let mut c = Cursor::start();
+    let mut k = 0;
+    while k < n {
+        let e = c.read(journal);
+        let a = step(site, state, e);
+        put_answer(answers, k, a);
+        c = c.next();
+        k += 1;
+    }
+}

@@ -1,0 +1,114 @@
+// The calls, and their C interface. Every call checks the site anew, and nothing is written before all checks have passed.
+ghost use mathlib.Core.Path.{_≡_};
+ghost use Rattle.model.specs.Calls.{number, isWorked, checkSite, freshReturned, freshState, runReturned, runJournal};
+use model::Returned;
+
+const LARGEST_JOURNAL: usize = 65520;
+
+// The number of an outcome in document 01, section "Turned back".
+pub fn number_of(r: Returned) -> u32
+    ensures { λ n. ⌜ n ≡ number r ⌝ }
+{
+    match r {
+        Returned::WorkedThrough => 0,
+        Returned::SiteLength => 1,
+        Returned::SiteField => 2,
+        Returned::SiteTwice => 3,
+        Returned::SiteMissing => 4,
+        Returned::StateLength => 5,
+        Returned::StateForm => 6,
+        Returned::JournalLength => 10,
+        Returned::AnswersLength => 11,
+    }
+}
+
+pub fn is_worked(r: Returned) -> bool
+    ensures { λ b. ⌜ b ≡ isWorked r ⌝ }
+{
+    number_of(r) == 0
+}
+
+// The site check: refusals 1 to 4.
+pub fn check_site(site: &[u8]) -> Returned
+    ensures { λ r. ⌜ r ≡ checkSite (now (site .entry)) ⌝ }
+{
+    site::check::check_site(site)
+}
+
+fn fresh_returned(site: &[u8], state: &[u8]) -> Returned
+    ensures { λ r. ⌜ r ≡ freshReturned (now (site .entry)) (now (state .entry)) ⌝ }
+{
+    let r = check_site(site);
+    if !is_worked(r) {
+        return r;
+    }
+    if state.len() != site.len() {
+        return Returned::StateLength;
+    }
+    Returned::WorkedThrough
+}
+
+// The fresh state: refusals 1 to 5; turned back, the state stays as it was.
+pub fn fresh_state(site: &[u8], state: &mut [u8]) -> Returned
+    ensures { λ r. ⌜ (r ≡ freshState (now (site .entry)) (now (state .entry)) .returned) × (now (state .exit) ≡ freshState (now (site .entry)) (now (state .entry)) .state) ⌝ }
+{
+    let r = fresh_returned(site, state);
+    if !is_worked(r) {
+        return r;
+    }
+    state::fresh::write_fresh_state(site, state);
+    r
+}
+
+fn run_returned(site: &[u8], state: &[u8], journal: &[u8], answers: &[u8]) -> Returned
+    ensures { λ r. ⌜ r ≡ runReturned (now (site .entry)) (now (state .entry)) (now (journal .entry)) (now (answers .entry)) ⌝ }
+{
+    let r = fresh_returned(site, state);
+    if !is_worked(r) {
+        return r;
+    }
+    if !state::well::is_well_formed(site, state) {
+        return Returned::StateForm;
+    }
+    if (journal.len() % 24 != 0) | (LARGEST_JOURNAL < journal.len()) {
+        return Returned::JournalLength;
+    }
+    if answers.len() != journal.len() / 24 * 16 {
+        return Returned::AnswersLength;
+    }
+    Returned::WorkedThrough
+}
+
+// The journal run: refusals 1 to 6, 10, 11; turned back, state and answers stay as they were. A bad entry is refused in its own answer.
+pub fn run_journal(site: &[u8], state: &mut [u8], journal: &[u8], answers: &mut [u8]) -> Returned
+    ensures { λ r. ⌜ (r ≡ runJournal (now (site .entry)) (now (state .entry)) (now (journal .entry)) (now (answers .entry)) .returned) × (now (state .exit) ≡ runJournal (now (site .entry)) (now (state .entry)) (now (journal .entry)) (now (answers .entry)) .state) × (now (answers .exit) ≡ runJournal (now (site .entry)) (now (state .entry)) (now (journal .entry)) (now (answers .entry)) .answers) ⌝ }
+{
+    let r = run_returned(site, state, journal, answers);
+    if !is_worked(r) {
+        return r;
+    }
+    journal::run::run(site, state, journal, answers);
+    r
+}
+
+// For C: each call returns the number of its outcome.
+#[no_mangle]
+pub extern "C" fn warblehay_check_site(site: &[u8]) -> u32
+    ensures { λ r. ⌜ r ≡ number (checkSite (now (site .entry))) ⌝ }
+{
+    number_of(check_site(site))
+}
+
+#[no_mangle]
+pub extern "C" fn warblehay_fresh_state(site: &[u8], state: &mut [u8]) -> u32
+    ensures { λ r. ⌜ (r ≡ number (freshState (now (site .entry)) (now (state .entry)) .returned)) × (now (state .exit) ≡ freshState (now (site .entry)) (now (state .entry)) .state) ⌝ }
+{
+    number_of(fresh_state(site, state))
+}
+
+#[no_mangle]
+pub extern "C" fn warblehay_run_journal(site: &[u8], state: &mut [u8], journal: &[u8], answers: &mut [u8]) -> u32
+    ensures { λ r. ⌜ (r ≡ number (runJournal (now (site .entry)) (now (state .entry)) (now (journal .entry)) (now (answers .entry)) .returned)) × (now (state .exit) ≡ runJournal (now (site .entry)) (now (state .entry)) (now (journal .entry)) (now (answers .entry)) .state) × (now (answers .exit) ≡ runJournal (now (site .entry)) (now (state .entry)) (now (journal .entry)) (now (answers .entry)) .answers) ⌝ }
+{
+    number_of(run_journal(site, state, journal, answers))
+}

@@ -1,0 +1,40 @@
+-- A record of another kind or number is no rule of the rights; of any other, the rights numbers and the flag decide.
+use mathlib.Core.Path.{sym}
+use denote.Ref.{now}
+use borrow.Author.Needs.{needs}
+use borrow.Author.Tests.{eq-eqb, ne-eqb}
+use Rattle.model.specs.Checks.{enabledRule}
+use Rattle.rules.proofs.Laws.{other-kind, other-number}
+use Rattle.rules.proofs.is_enabled_rule.Statement.{statement}
+use Rattle.rules.proofs.is_enabled_rule.Tie as tie
+
+returns : tie.Need-returns
+returns c =
+    let a = c .before .before .before .args in
+    sym (other-kind (a .first) (a .second) (now (a .part)) (rw (← c .before .get-u8 .ensures) (ne-eqb _ _ (c .if1 .taken))))
+
+returns-2 : tie.Need-returns-2
+returns-2 c =
+    let a = c .before .before .before .before .before .args in
+    sym (other-number (a .first) (a .second) (now (a .part)) (rw (← c .before .get-u32 .ensures) (c .if2 .taken)))
+
+returns-3 : tie.Need-returns-3
+unfolding enabledRule
+returns-3 c =
+    let d = c .before .before .before .before in
+    rw (
+      ← d .before .before .get-u8 .ensures,
+      eq-eqb _ _ (d .before .if1 .left),
+      c .flag-of .ensures,
+      c .before .is-right2 .ensures,
+      c .before .before .is-right .ensures,
+      d .get-u32 .ensures,
+    )
+
+pub is-enabled-rule-spec : {M : Type 1} → statement M
+is-enabled-rule-spec =
+    tie.close
+    (tie.spec
+    (λ c κs. search needs) returns
+    (λ c κs. search needs) returns-2
+    (λ c κs. search needs) (λ c κs. search needs) (λ c κs. search needs) returns-3)

@@ -1,0 +1,16 @@
+-- Each field in its turn.
+use borrow.Author.Needs.{needs}
+use Rattle.model.specs.Accept.{zoneInRange}
+use Rattle.site.proofs.range.zone_in_range.Statement.{statement}
+use Rattle.site.proofs.range.zone_in_range.Tie as tie
+
+pub zone-in-range-spec : {M : Type 1} → statement M
+unfolding zoneInRange
+zone-in-range-spec =
+    tie.close
+    (tie.spec
+    (λ c κs. search needs)
+    (λ c κs. search needs)
+    (λ c κs. search needs)
+    (λ c κs. search needs)
+    (λ c. rw (c .is-clear2 .ensures, c .before .is-clear .ensures, c .before .before .get-u82 .ensures, c .before .before .before .get-u8 .ensures)))

@@ -1,0 +1,36 @@
+// The check of a site file, and the lookups in it.
+pub mod lookup; // lookup.rt: the record that a number names, and its place
+pub mod range; // range.rt: whether the fields of a record are in range
+pub mod check; // check.rt: whether a site is turned back
+
+// Instances are numbered per object type, so that zone 7 is never credential 7: a number of each type is a type of its own.
+pub struct ZoneId(pub u32);
+
+pub struct PointId(pub u32);
+
+pub struct CredentialId(pub u32);
+
+pub struct RightsId(pub u32);
+
+// Where a record stands among the records of a site.
+pub enum Place {
+    At(usize),
+    Nothing,
+}
+
+// Numbers of document 01, by the names of the model's Numbers.
+pub const NONE: u32 = 4194303;
+
+pub const ACCESS_ZONE: u8 = 1;
+
+pub const ACCESS_POINT: u8 = 2;
+
+pub const ACCESS_RULE: u8 = 3;
+
+pub const ACCESS_CREDENTIAL: u8 = 4;
+
+pub const AUTHENTICATION_FACTOR: u8 = 5;
+
+pub const ROLE_IDENTIFYING: u8 = 1;
+
+pub const ROLE_CONFIRMING: u8 = 2;

@@ -1,0 +1,204 @@
+// The record that a number names, and its place, on any slice.
+ghost use mathlib.Core.Path.{_≡_};
+ghost use mathlib.Core.List.{[]};
+ghost use Prim.Native.Nat.{_+_, _≤_, _<_};
+ghost use lib.ListN.{length, take, drop, getD};
+ghost use Rattle.octets.specs.Octets.{same};
+ghost use Rattle.model.specs.Numbers.{access-zone, access-point, access-rule, access-credential};
+ghost use Rattle.model.specs.Site as Site;
+ghost use Rattle.model.specs.Site.{records, isAt, findIn, lookup};
+ghost use Rattle.model.specs.Checks.{presents, identifying, confirming};
+ghost use Rattle.site.specs.Place.{placeOf};
+use super::ACCESS_CREDENTIAL;
+use super::ACCESS_POINT;
+use super::ACCESS_RULE;
+use super::ACCESS_ZONE;
+use super::AUTHENTICATION_FACTOR;
+use super::CredentialId;
+use super::Place;
+use super::PointId;
+use super::ROLE_CONFIRMING;
+use super::ROLE_IDENTIFYING;
+use super::RightsId;
+use super::ZoneId;
+
+pub fn record_count(site: &[u8]) -> usize
+    ensures { λ r. ⌜ r ≡ length (records (now (site .entry))) ⌝ }
+{
+    octets::group_count(site)
+}
+
+// The i-th record, as a part of the site.
+pub fn record_at(site: &[u8], i: usize) -> &[u8]
+    requires { ⌜ i < length (records (now site)) ⌝ }
+    ensures { λ r. ⌜ (now r ≡ getD (records (now (site .entry))) i []) × (length (now r) ≡ 32) ⌝ }
+{
+    octets::group(site, i)
+}
+
+pub fn is_at(part: &[u8], kind: u8, instance: u32) -> bool
+    requires { ⌜ length (now part) ≡ 32 ⌝ }
+    ensures { λ r. ⌜ r ≡ isAt kind instance (now (part .entry)) ⌝ }
+{
+    if octets::get_u8(part, 0) != kind {
+        return false;
+    }
+    octets::get_u32(part, 4) == instance
+}
+
+// The place of the first record of a kind and an instance.
+pub fn place_of(site: &[u8], kind: u8, instance: u32) -> Place
+    ensures { λ r. ⌜ r ≡ placeOf kind instance (now (site .entry)) ⌝ }
+{
+    let n = record_count(site);
+    let mut i = 0;
+    while i < n {
+        if is_at(record_at(site, i), kind, instance) {
+            return Place::At(i);
+        }
+        i += 1;
+    }
+    Place::Nothing
+}
+
+// The first record of a kind and an instance, else the empty part.
+pub fn find(site: &[u8], kind: u8, instance: u32) -> &[u8]
+    ensures { λ r. ⌜ now r ≡ lookup kind instance (now (site .entry)) ⌝ }
+{
+    match place_of(site, kind, instance) {
+        Place::At(i) => record_at(site, i),
+        Place::Nothing => &site[..0],
+    }
+}
+
+pub fn find_zone(site: &[u8], zone: ZoneId) -> &[u8]
+    ensures { λ r. ⌜ now r ≡ lookup access-zone (zone .0) (now (site .entry)) ⌝ }
+{
+    find(site, ACCESS_ZONE, zone.0)
+}
+
+pub fn find_point(site: &[u8], point: PointId) -> &[u8]
+    ensures { λ r. ⌜ now r ≡ lookup access-point (point .0) (now (site .entry)) ⌝ }
+{
+    find(site, ACCESS_POINT, point.0)
+}
+
+pub fn find_credential(site: &[u8], credential: CredentialId) -> &[u8]
+    ensures { λ r. ⌜ now r ≡ lookup access-credential (credential .0) (now (site .entry)) ⌝ }
+{
+    find(site, ACCESS_CREDENTIAL, credential.0)
+}
+
+// The first rule of a rights number.
+pub fn find_rights(site: &[u8], rights: RightsId) -> &[u8]
+    ensures { λ r. ⌜ now r ≡ lookup access-rule (rights .0) (now (site .entry)) ⌝ }
+{
+    find(site, ACCESS_RULE, rights.0)
+}
+
+pub fn place_of_zone(site: &[u8], zone: ZoneId) -> Place
+    ensures { λ r. ⌜ r ≡ placeOf access-zone (zone .0) (now (site .entry)) ⌝ }
+{
+    place_of(site, ACCESS_ZONE, zone.0)
+}
+
+pub fn place_of_point(site: &[u8], point: PointId) -> Place
+    ensures { λ r. ⌜ r ≡ placeOf access-point (point .0) (now (site .entry)) ⌝ }
+{
+    place_of(site, ACCESS_POINT, point.0)
+}
+
+pub fn place_of_credential(site: &[u8], credential: CredentialId) -> Place
+    ensures { λ r. ⌜ r ≡ placeOf access-credential (credential .0) (now (site .entry)) ⌝ }
+{
+    place_of(site, ACCESS_CREDENTIAL, credential.0)
+}
+
+// Whether eight bytes of one slice are eight bytes of another. They are compared as two words, which is quicker than byte by byte, and the
+// second word first, since values with leading zeros differ there.
+pub fn same_eight(a: &[u8], i: usize, b: &[u8], j: usize) -> bool
+    requires { ⌜ (i + 8 ≤ length (now a)) × (j + 8 ≤ length (now b)) ⌝ }
+    ensures { λ r. ⌜ r ≡ same (take 8 (drop i (now (a .entry)))) (take 8 (drop j (now (b .entry)))) ⌝ }
+{
+    if octets::get_u32(a, i + 4) != octets::get_u32(b, j + 4) {
+        return false;
+    }
+    octets::get_u32(a, i) == octets::get_u32(b, j)
+}
+
+// Whether a factor has a value. All eight bytes are compared, leading zeros included.
+fn has_value(part: &[u8], value: [u8; 8]) -> bool
+    requires { ⌜ length (now part) ≡ 32 ⌝ }
+    ensures { λ r. ⌜ r ≡ same (Site.value (now (part .entry))) value ⌝ }
+{
+    same_eight(part, 16, &value, 0)
+}
+
+// Whether a factor has a format and a value.
+fn is_presented(part: &[u8], format: u8, value: [u8; 8]) -> bool
+    requires { ⌜ length (now part) ≡ 32 ⌝ }
+    ensures { λ r. ⌜ r ≡ presents format value (now (part .entry)) ⌝ }
+{
+    if octets::get_u8(part, 8) != format {
+        return false;
+    }
+    has_value(part, value)
+}
+
+fn is_identifying(part: &[u8], format: u8, value: [u8; 8]) -> bool
+    requires { ⌜ length (now part) ≡ 32 ⌝ }
+    ensures { λ r. ⌜ r ≡ identifying format value (now (part .entry)) ⌝ }
+{
+    if octets::get_u8(part, 0) != AUTHENTICATION_FACTOR {
+        return false;
+    }
+    if octets::get_u8(part, 2) != ROLE_IDENTIFYING {
+        return false;
+    }
+    is_presented(part, format, value)
+}
+
+fn is_confirming(part: &[u8], credential: CredentialId, format: u8, value: [u8; 8]) -> bool
+    requires { ⌜ length (now part) ≡ 32 ⌝ }
+    ensures { λ r. ⌜ r ≡ confirming (credential .0) format value (now (part .entry)) ⌝ }
+{
+    if !is_at(part, AUTHENTICATION_FACTOR, credential.0) {
+        return false;
+    }
+    if octets::get_u8(part, 2) != ROLE_CONFIRMING {
+        return false;
+    }
+    is_presented(part, format, value)
+}
+
+// The first identifying factor of a format and a value, else the empty part.
+pub fn find_identifying(site: &[u8], format: u8, value: [u8; 8]) -> &[u8]
+    ensures { λ r. ⌜ now r ≡ findIn (identifying format value) (records (now (site .entry))) ⌝ }
+{
+    let n = record_count(site);
+    let mut i = 0;
+    while i < n {
+        let part = record_at(site, i);
+        if is_identifying(part, format, value) {
+            return part;
+        }
+        i += 1;
+    }
+    &site[..0]
+}
+
+// The first confirming factor of a credential, a format and a value, else the empty part.
+pub fn find_confirming(site: &[u8], credential: CredentialId, format: u8, value: [u8; 8]) -> &[u8]
+    ensures { λ r. ⌜ now r ≡ findIn (confirming (credential .0) format value) (records (now (site .entry))) ⌝ }
+{
+    let n = record_count(site);
+    let mut i = 0;
+    while i < n {
+        let part = record_at(site, i);
+        if is_confirming(part, credential, format, value) {
+            return part;
+        }
+        i += 1;
+    }
+    &site[..0]
+}

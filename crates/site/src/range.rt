@@ -1,0 +1,138 @@
+// Whether the fields of a record are in range (refusal 2). Each function takes the record's 32 bytes.
+ghost use mathlib.Core.Path.{_≡_};
+ghost use Prim.Native.Nat.{_+_, _≤_};
+ghost use lib.ListN.{length};
+ghost use Rattle.model.specs.Site.{everywhere};
+ghost use Rattle.model.specs.Accept.{clear, zoneInRange, pointInRange, ruleInRange, credentialInRange, factorInRange, inRange};
+ghost use Rattle.site.specs.Parts.{locationInRange};
+use super::ACCESS_CREDENTIAL;
+use super::ACCESS_POINT;
+use super::ACCESS_RULE;
+use super::ACCESS_ZONE;
+use super::AUTHENTICATION_FACTOR;
+use super::NONE;
+
+const LARGEST_THREAT: u8 = 100;
+
+const LARGEST_DISABLE: u8 = 3;
+
+const MINUTES_OF_DAY: u16 = 1440;
+
+// Whether n bytes are zero.
+pub fn is_clear(part: &[u8], at: usize, n: usize) -> bool
+    requires { ⌜ at + n ≤ length (now part) ⌝ }
+    ensures { λ r. ⌜ r ≡ clear at n (now (part .entry)) ⌝ }
+{
+    let end = at + n;
+    let mut i = at;
+    while i < end {
+        if part[i] != 0 {
+            return false;
+        }
+        i += 1;
+    }
+    true
+}
+
+fn zone_in_range(part: &[u8]) -> bool
+    requires { ⌜ length (now part) ≡ 32 ⌝ }
+    ensures { λ r. ⌜ r ≡ zoneInRange (now (part .entry)) ⌝ }
+{
+    (octets::get_u8(part, 1) < 2)
+        & (octets::get_u8(part, 2) <= 2)
+        & is_clear(part, 3, 1)
+        & is_clear(part, 20, 12)
+}
+
+fn point_in_range(part: &[u8]) -> bool
+    requires { ⌜ length (now part) ≡ 32 ⌝ }
+    ensures { λ r. ⌜ r ≡ pointInRange (now (part .entry)) ⌝ }
+{
+    let wanted = octets::get_u8(part, 3);
+    let zone_to = octets::get_u32(part, 8);
+    let zone_from = octets::get_u32(part, 12);
+    (octets::get_u8(part, 1) < 32)
+        & (octets::get_u8(part, 2) <= 2)
+        & ((1 <= wanted) & (wanted <= 2))
+        & (zone_to <= NONE)
+        & (zone_from <= NONE)
+        & ((zone_to == NONE) | (zone_to != zone_from))
+        & (octets::get_u8(part, 16) <= LARGEST_THREAT)
+        & is_clear(part, 28, 4)
+}
+
+pub fn is_everywhere(part: &[u8]) -> bool
+    requires { ⌜ length (now part) ≡ 32 ⌝ }
+    ensures { λ r. ⌜ r ≡ everywhere (now (part .entry)) ⌝ }
+{
+    octets::get_u8(part, 1) / 8 % 2 == 1
+}
+
+// A rule's location: none where the rule is for everywhere, else a zone or a point.
+fn location_in_range(part: &[u8]) -> bool
+    requires { ⌜ length (now part) ≡ 32 ⌝ }
+    ensures { λ r. ⌜ r ≡ locationInRange (now (part .entry)) ⌝ }
+{
+    let kind = octets::get_u8(part, 2);
+    let location = octets::get_u32(part, 8);
+    if is_everywhere(part) {
+        return (kind == 0) & (location == 0);
+    }
+    ((1 <= kind) & (kind <= 2)) & (location < NONE)
+}
+
+fn rule_in_range(part: &[u8]) -> bool
+    requires { ⌜ length (now part) ≡ 32 ⌝ }
+    ensures { λ r. ⌜ r ≡ ruleInRange (now (part .entry)) ⌝ }
+{
+    let from = octets::get_u16(part, 12);
+    let to = octets::get_u16(part, 14);
+    (octets::get_u8(part, 1) < 16)
+        & (octets::get_u8(part, 3) < 128)
+        & location_in_range(part)
+        & (from <= to)
+        & (to <= MINUTES_OF_DAY)
+        & is_clear(part, 16, 16)
+}
+
+fn credential_in_range(part: &[u8]) -> bool
+    requires { ⌜ length (now part) ≡ 32 ⌝ }
+    ensures { λ r. ⌜ r ≡ credentialInRange (now (part .entry)) ⌝ }
+{
+    (octets::get_u8(part, 1) < 32)
+        & (octets::get_u8(part, 2) <= LARGEST_DISABLE)
+        & (octets::get_u8(part, 3) <= LARGEST_THREAT)
+        & is_clear(part, 22, 2)
+        & (octets::get_u32(part, 24) <= NONE)
+        & (octets::get_u32(part, 28) <= NONE)
+}
+
+fn factor_in_range(part: &[u8]) -> bool
+    requires { ⌜ length (now part) ≡ 32 ⌝ }
+    ensures { λ r. ⌜ r ≡ factorInRange (now (part .entry)) ⌝ }
+{
+    let role = octets::get_u8(part, 2);
+    is_clear(part, 1, 1)
+        & ((1 <= role) & (role <= 2))
+        & (octets::get_u8(part, 3) <= 5)
+        & (2 <= octets::get_u8(part, 8))
+        & is_clear(part, 9, 7)
+        & is_clear(part, 24, 8)
+}
+
+pub fn in_range(part: &[u8]) -> bool
+    requires { ⌜ length (now part) ≡ 32 ⌝ }
+    ensures { λ r. ⌜ r ≡ inRange (now (part .entry)) ⌝ }
+{
+    if NONE <= octets::get_u32(part, 4) {
+        return false;
+    }
+    match octets::get_u8(part, 0) {
+        ACCESS_ZONE => zone_in_range(part),
+        ACCESS_POINT => point_in_range(part),
+        ACCESS_RULE => rule_in_range(part),
+        ACCESS_CREDENTIAL => credential_in_range(part),
+        AUTHENTICATION_FACTOR => factor_in_range(part),
+        _ => false,
+    }
+}
