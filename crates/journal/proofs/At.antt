@@ -72,7 +72,7 @@ paired-stored (suc k) (suc j) site state b h fits l =
     let e : 32 + j * 32 + 32 ≡ 32 + (j * 32 + 32) = omega arith in
     let w : length (take 32 state) ≡ 32 = length-take-le 32 state (omega arith) in
     let t : take (suc j * 32) state ++ (b ++ drop (suc j * 32 + 32) state) ≡ take 32 state ++ storedAt j b (drop 32 state) =
-        rw (m, e, take-add 32 (j * 32) state, ← drop-drop (j * 32 + 32) 32 state) (append-assoc (take 32 state) (take (j * 32) (drop 32 state)) (b ++ drop (j * 32 + 32) (drop 32 state))) in
+    rw (m, e, take-add 32 (j * 32) state, ← drop-drop (j * 32 + 32) 32 state) (append-assoc (take 32 state) (take (j * 32) (drop 32 state)) (b ++ drop (j * 32 + 32) (drop 32 state))) in
     rw (t, take-at (take 32 state) (storedAt j b (drop 32 state)) 32 w, drop-at (take 32 state) (storedAt j b (drop 32 state)) 32 w)
     (ap (λ qs. (take 32 site, take 32 state) ∷ qs) (paired-stored k j (drop 32 site) (drop 32 state) b (omega arith) (simp length-drop (omega arith)) l))
 
@@ -132,8 +132,10 @@ module _ (site state : List ℕ) (whole-site : length site % 32 ≡ 0) (same-len
   store-at k i b l (At j) h =
       let q = placed k i j h in
       let t : ltb j (length state / 32) ≡ true = lt-ltb j (length state / 32) (omega (arith, q .0)) in
-      rw t (unfold panel in (paired-stored (length site / 32) j site state b (q .0) (omega arith) l ∙ sym (q .2 b)),
-      unfold storedAt in (simp (length-append, length-take, length-drop) (omega (arith, q .0, l))))
+      rw t (
+        unfold panel in (paired-stored (length site / 32) j site state b (q .0) (omega arith) l ∙ sym (q .2 b)),
+        unfold storedAt in (simp (length-append, length-take, length-drop) (omega (arith, q .0, l))),
+      )
   store-at k i b l Nothing h = (sym (h .1 b), same-length)
 
   pub write-at : (on : Bool) (k i : ℕ) (b : List ℕ) (p : Place) → length b ≡ 32 → (eqb i NONE ≡ false → p ≡ placeOf k i site) →

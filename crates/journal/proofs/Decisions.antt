@@ -148,7 +148,7 @@ module _ (site state : List ℕ) (whole-site : length site % 32 ≡ 0) (same-len
   unfolding entryOutcome outcomeAs
   entry-worked j f p =
       let m : missing (find (objectKind (operationOf (e .operation))) (e .instance) (panel site state) .0) ≡ false =
-          rw (find-at site state whole-site same-length (objectKind (operationOf (e .operation))) (e .instance), p) (there (objectKind (operationOf (e .operation))) (e .instance) j site p) in
+      rw (find-at site state whole-site same-length (objectKind (operationOf (e .operation))) (e .instance), p) (there (objectKind (operationOf (e .operation))) (e .instance) j site p) in
       rw (f, m)
 
 -- What is written of a decision leaves the state of the panel after its outcome.

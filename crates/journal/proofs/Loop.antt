@@ -86,9 +86,10 @@ module _ (site : List ℕ) (es : List Entry) (ps : Panel) (room : List ℕ) wher
       (state ≡ stateOf (after ps es)) × (answers′ ≡ flatten (map answerBytes (answers ps es)))
   done-end whole-site k state answers′ e l done =
       let t : take k es ≡ es = take-all k es (omega arith) in
-      let r : drop (k * 16) room ≡ [] = drop-of-length-le room {i = k * 16} (omega arith) in
-      (sym (state-of site state whole-site (done .state-length)) ∙ ap stateOf (done .state-is) ∙ ap (λ fs. stateOf (after ps fs)) t,
-      done .answers-are ∙ ap₂ (λ fs b. flatten (map answerBytes (answers ps fs)) ++ b) t r ∙ append-nil _)
+      let r : drop (k * 16) room ≡ [] = drop-of-length-le room {i = k * 16} (omega arith) in (
+        sym (state-of site state whole-site (done .state-length)) ∙ ap stateOf (done .state-is) ∙ ap (λ fs. stateOf (after ps fs)) t,
+        done .answers-are ∙ ap₂ (λ fs b. flatten (map answerBytes (answers ps fs)) ++ b) t r ∙ append-nil _,
+      )
 
 -- The entry at the cursor is the k-th.
 pub entry-at : (journal : List ℕ) (k at : ℕ) → k < length journal / 24 → at ≡ k * 24 →

@@ -34,10 +34,12 @@ module _ (site state : List ℕ) (whole-site : length site % 32 ≡ 0) (same-len
   pub view-at : (place : Place) (e : Entry) → viewOf (panel site state) e (partAt place site, partAt place state) ≡ gathered place e site state .view
   unfolding viewOf factorRead numberRead zoneTo zoneFrom credentialAt gathered waitingAt factorAt numberAt toAt fromAt heldAt
   view-at place e =
-      rw (sites-panel site state,
-      seek-at site state whole-site same-length 1 _,
-      seek-at site state whole-site same-length 1 _,
-      seek-at site state whole-site same-length 4 _)
+      rw (
+        sites-panel site state,
+        seek-at site state whole-site same-length 1 _,
+        seek-at site state whole-site same-length 1 _,
+        seek-at site state whole-site same-length 4 _,
+      )
 
   -- The rules are asked of the site's records.
   pub rules-at : (place : Place) (e : Entry) →

@@ -80,7 +80,10 @@ fn factor_decided(site: &[u8], state: &[u8], e: Entry, place: Place) -> Decided
     let point = records::point_of(part_at(site, place));
     if point.out_of_service {
         let held = records::point_state_of(part_at(state, place));
-        return at_object(operations::out_of_service_outcome(held.tag, count_to(site, state, place)), place);
+        return at_object(
+            operations::out_of_service_outcome(held.tag, count_to(site, state, place)),
+            place,
+        );
     }
     let g = gather(site, state, e, place);
     let v = g.view;
@@ -115,14 +118,23 @@ fn worked(site: &[u8], state: &[u8], o: Operation, e: Entry, place: Place) -> De
         Operation::Factor => factor_decided(site, state, e, place),
         Operation::SetCount => at_object(operations::count_outcome(e, e.amount), place),
         Operation::AdjustCount => {
-            at_object(operations::adjust_outcome(e, records::count_of(part_at(state, place))), place)
+            at_object(
+                operations::adjust_outcome(e, records::count_of(part_at(state, place))),
+                place,
+            )
         }
         Operation::SetDisable => {
-            at_object(operations::disable_outcome(e, records::credential_state_of(part_at(state, place))), place)
+            at_object(
+                operations::disable_outcome(e, records::credential_state_of(part_at(state, place))),
+                place,
+            )
         }
         Operation::SetService => {
             let held = records::point_state_of(part_at(state, place));
-            at_object(operations::service_outcome(e, held, count_to(site, state, place)), place)
+            at_object(
+                operations::service_outcome(e, held, count_to(site, state, place)),
+                place,
+            )
         }
         Operation::Unknown => at_object(operations::refuse(numbers::REFUSED_FORM), Place::Nothing),
     }
@@ -140,6 +152,9 @@ pub fn decide(site: &[u8], state: &[u8], e: Entry) -> Decided
     let place = lookup::place_of(site, object_kind(o), e.instance);
     match place {
         Place::At(i) => worked(site, state, o, e, Place::At(i)),
-        Place::Nothing => at_object(operations::refuse(numbers::REFUSED_NO_OBJECT), Place::Nothing),
+        Place::Nothing => at_object(
+            operations::refuse(numbers::REFUSED_NO_OBJECT),
+            Place::Nothing,
+        ),
     }
 }

@@ -6,6 +6,7 @@ pub mod decide; // decide.rt: the outcome of an entry, and where its records sta
 pub mod apply; // apply.rt: the state records that an outcome writes
 pub mod step; // step.rt: one entry
 pub mod run; // run.rt: all entries of a journal
+
 use model::Outcome;
 use model::View;
 use site::Place;

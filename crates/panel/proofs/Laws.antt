@@ -1,14 +1,16 @@
 -- What a call may rely on once its checks have passed.
-use Prim.Native.Nat.{ℕ, _%_}
+use Prim.Native.Nat.{ℕ, _*_, _/_, _%_}
 use mathlib.Core.Path.{_≡_, refl}
 use mathlib.Core.List.{List}
 use mathlib.Core.Bool.{Bool, true, false, not}
 use lib.Dec.{eqb}
 use lib.ListN.{length}
-use borrow.Author.Tests.{eqb-true}
+use borrow.Author.Tests.{eqb-true, not-false}
 use Rattle.model.specs.Words.{if_then_else_}
-use Rattle.model.specs.Calls.{isWorked, checkSite, freshReturned}
+use Rattle.model.specs.Calls.{isWorked, freshReturned, runReturned, runJournal}
+use Rattle.model.specs.Lists.{runOn}
 use Rattle.model.proofs.Runs.{worked-through, site-accepted, site-worked, passed-check}
+use Rattle.model.proofs.Entries.{run-accepted}
 use Rattle.model.specs.declared.Returned.the-variants.{WorkedThrough, StateLength}
 
 -- Site and state of whole records, one as long as the other.
@@ -18,4 +20,12 @@ lengths site state w =
     let f = worked-through (freshReturned site state) w in
     let s = site-worked site state f in
     let p = passed-check (not (eqb (length state) (length site))) StateLength WorkedThrough refl (rw s at f) in
-    (site-accepted site s .whole-records, eqb-true (length state) (length site) (borrow.Author.Tests.not-false _ (p .0)))
+    (site-accepted site s .whole-records, eqb-true (length state) (length site) (not-false _ (p .0)))
+
+-- And answers of 16 bytes for each entry.
+pub run-lengths : (site state journal answers : List ℕ) → isWorked (runReturned site state journal answers) ≡ true →
+    ((length site % 32 ≡ 0) × (length state ≡ length site)) × (length answers ≡ length journal / 24 * 16)
+unfolding runOn runJournal
+run-lengths site state journal answers w =
+    let a = run-accepted site state (record { journal = journal; answers = answers }) w in
+    (lengths site state (a .fresh-worked), a .answers-length)

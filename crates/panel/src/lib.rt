@@ -107,7 +107,12 @@ pub extern "C" fn warblehay_fresh_state(site: &[u8], state: &mut [u8]) -> u32
 }
 
 #[no_mangle]
-pub extern "C" fn warblehay_run_journal(site: &[u8], state: &mut [u8], journal: &[u8], answers: &mut [u8]) -> u32
+pub extern "C" fn warblehay_run_journal(
+    site: &[u8],
+    state: &mut [u8],
+    journal: &[u8],
+    answers: &mut [u8],
+) -> u32
     ensures { λ r. ⌜ (r ≡ number (runJournal (now (site .entry)) (now (state .entry)) (now (journal .entry)) (now (answers .entry)) .returned)) × (now (state .exit) ≡ runJournal (now (site .entry)) (now (state .entry)) (now (journal .entry)) (now (answers .entry)) .state) × (now (answers .exit) ≡ runJournal (now (site .entry)) (now (state .entry)) (now (journal .entry)) (now (answers .entry)) .answers) ⌝ }
 {
     number_of(run_journal(site, state, journal, answers))

@@ -1,5 +1,8 @@
-//! Comparison of the proved engine with the `reference` crate.
-//!
-//! It will link the static library of the proved engine, hand the generated cases of
-//! `reference::generate` to both engines, and compare every return value and every byte of
-//! state and answers.
+//! The proved engine beside the `reference` crate: its calls, the comparison of one call through
+//! both engines, and the settings of the tests.
+
+#![deny(unsafe_code)]
+
+pub mod compare;
+pub mod proved;
+pub mod settings;

@@ -5,14 +5,14 @@
 
 use crate::answer::Answer;
 use crate::bytes::{put16, put32};
-use crate::journal::run_journal;
+use crate::engine::{Engine, REFERENCE};
 use crate::layout::{credential, entry, factor, point, record, rule, zone};
 use crate::numbers::{
     factor_role, factors_wanted, kind, operation, refusal, rule_flag, ANSWER_LENGTH, ENTRY_LENGTH,
     MINUTES_PER_DAY, NEVER, NONE, RECORD_LENGTH, UNLIMITED, VALUE_LENGTH,
 };
 use crate::site::find;
-use crate::state::{fresh_state, state_at};
+use crate::state::state_at;
 
 pub type Record = [u8; RECORD_LENGTH];
 
@@ -301,27 +301,38 @@ pub fn journal(entries: &[EntryFields]) -> Vec<u8> {
     entries.iter().flat_map(EntryFields::bytes).collect()
 }
 
-/// An accepted site with its state.
+/// An accepted site with its state, worked by one engine.
 pub struct Panel {
+    engine: Engine,
     pub site: Vec<u8>,
     pub state: Vec<u8>,
 }
 
 impl Panel {
-    /// A panel in the fresh state. Panics where the site is turned back.
+    /// A panel of this crate's engine in the fresh state.
     pub fn fresh(records: &[Record]) -> Panel {
+        Panel::fresh_by(REFERENCE, records)
+    }
+
+    /// A panel in the fresh state. Panics where the site is turned back.
+    pub fn fresh_by(engine: Engine, records: &[Record]) -> Panel {
         let site = records.concat();
         let mut state = vec![0; site.len()];
-        let refused = fresh_state(&site, &mut state);
+        let refused = (engine.fresh_state)(&site, &mut state);
         assert_eq!(refused, refusal::ACCEPTED, "the site is turned back");
-        Panel { site, state }
+        Panel {
+            engine,
+            site,
+            state,
+        }
     }
 
     /// Works a journal and hands back its answers. Panics where it is turned back.
     pub fn run(&mut self, entries: &[EntryFields]) -> Vec<Answer> {
         let mut answers = vec![0; entries.len() * ANSWER_LENGTH];
         let journal = journal(entries);
-        let refused = run_journal(&self.site, &mut self.state, &journal, &mut answers);
+        let run = self.engine.run_journal;
+        let refused = run(&self.site, &mut self.state, &journal, &mut answers);
         assert_eq!(refused, refusal::ACCEPTED, "the journal is turned back");
         answers
             .chunks_exact(ANSWER_LENGTH)

@@ -9,14 +9,17 @@
 pub mod answer;
 pub mod build;
 pub mod bytes;
+pub mod engine;
 pub mod entry;
 mod factor_read;
 pub mod generate;
 pub mod journal;
 pub mod layout;
 pub mod numbers;
+pub mod occurrences;
 pub mod print;
 mod rights;
+pub mod scenarios;
 pub mod site;
 pub mod state;
 pub mod time;

@@ -1,20 +1,24 @@
 //! The output of the printing program.
 
-use crate::journal::run_journal;
+use crate::engine::{Engine, REFERENCE};
 use crate::numbers::{refusal, ANSWER_LENGTH, ENTRY_LENGTH};
-use crate::state::fresh_state;
 use std::fmt::Write;
+
+/// What this crate's engine prints.
+pub fn print_journal(site: &[u8], journal: &[u8]) -> String {
+    print_by(REFERENCE, site, journal)
+}
 
 /// From the fresh state, one line of hexadecimal digits for each answer; of an input turned back,
 /// only the number.
-pub fn print_journal(site: &[u8], journal: &[u8]) -> String {
+pub fn print_by(engine: Engine, site: &[u8], journal: &[u8]) -> String {
     let mut state = vec![0; site.len()];
-    let refused = fresh_state(site, &mut state);
+    let refused = (engine.fresh_state)(site, &mut state);
     if refused != refusal::ACCEPTED {
         return format!("{refused}\n");
     }
     let mut answers = vec![0; journal.len() / ENTRY_LENGTH * ANSWER_LENGTH];
-    let refused = run_journal(site, &mut state, journal, &mut answers);
+    let refused = (engine.run_journal)(site, &mut state, journal, &mut answers);
     if refused != refusal::ACCEPTED {
         return format!("{refused}\n");
     }

@@ -11,7 +11,7 @@ use crate::state::fresh_state;
 
 /// The buffers of one journal run. The answers hold bytes that a run must overwrite, or leave
 /// where it is turned back.
-#[derive(Clone)]
+#[derive(Clone, PartialEq)]
 pub struct Case {
     pub site: Vec<u8>,
     pub state: Vec<u8>,

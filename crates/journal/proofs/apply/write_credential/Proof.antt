@@ -1,4 +1,3 @@
-
 use mathlib.Core.Path.{_≡_}
 use mathlib.Core.Bool.{not, _&&_}
 use lib.Dec.{eqb}

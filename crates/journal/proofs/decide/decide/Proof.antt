@@ -24,7 +24,7 @@ at-object-requires : tie.Need-at-object-requires
 at-object-requires c κs = search needs
 
 returns : tie.Need-returns
-returns c = 
+returns c =
     let s = c .before .before .before .before .before .before .before in
     let a = s .args in
     decided-refused (now (a .site)) n.refused-form Nothing _ _ (c .at-object .ensures ∙ ap (λ o. atObject o Nothing) (c .before .refuse .ensures))
@@ -40,7 +40,7 @@ enum-known-place : tie.Need-enum-known-place
 enum-known-place c = search needs
 
 worked-requires : tie.Need-worked-requires
-worked-requires c κs = 
+worked-requires c κs =
     let s = c .before .before .before .before .before .before .before .before .before .before in
     let a = s .args in
     let p : c .before .before .before .place-of .result ≡ At (c .before .place .given .0 .0) = cc in
@@ -56,7 +56,7 @@ at-object-requires-2 : tie.Need-at-object-requires-2
 at-object-requires-2 c κs = search needs
 
 returns-2 : tie.Need-returns-2
-returns-2 c = 
+returns-2 c =
     let s = c .before .before .before .before .before .before .before .before .before .before .before in
     let a = s .args in
     let p : c .before .before .before .before .place-of .result ≡ At (c .before .before .place .given .0 .0) = cc in
@@ -64,7 +64,7 @@ returns-2 c =
     rw (← w) (rw (c .before .before .before .before .before .before .before .before .operation-of .ensures) at (c .worked .ensures))
 
 returns-3 : tie.Need-returns-3
-returns-3 c = 
+returns-3 c =
     let s = c .before .before .before .before .before .before .before .before .before .before .before in
     let a = s .args in
     let p : c .before .before .before .before .place-of .result ≡ Nothing = cc in

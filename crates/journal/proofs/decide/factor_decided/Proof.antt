@@ -34,7 +34,7 @@ at-object-requires : tie.Need-at-object-requires
 at-object-requires c κs = search needs
 
 returns : tie.Need-returns
-returns c = 
+returns c =
     let s = c .before .before .before .before .before .before .before .before .before .before in
     let a = s .args in
     decided-away (now (a .site)) (now (a .state)) (s .pre .0 .0) (s .pre .0 .1) (a .e) (a .place) _ (s .pre .1)
@@ -56,7 +56,7 @@ factor-outcome-requires : tie.Need-factor-outcome-requires
 factor-outcome-requires c κs = search needs
 
 returns-2 : tie.Need-returns-2
-returns-2 c = 
+returns-2 c =
     let s = c .before .before .before .before .before .before .before .before .before .before in
     let a = s .args in
     let g = c .before .before .before .before .gather .ensures in

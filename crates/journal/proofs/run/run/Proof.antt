@@ -1,4 +1,3 @@
-
 use Prim.Native.Nat.{_+_, _-_, _*_, _/_, _≤_, _<_}
 use native.Mathlib.Omega.{arith}
 use native.Mathlib.Numerals.{add-one}
@@ -25,7 +24,7 @@ start-requires : tie.Need-start-requires Inv-loop μ-loop
 start-requires c κs = search needs
 
 loop-holds : tie.Need-loop-holds Inv-loop μ-loop
-loop-holds c = 
+loop-holds c =
     let s = c .before .before .before .before .before in
     let a = s .args in
     (search needs, search needs, search needs, refl, refl, done-start (now (a .site)) (map entryOf (entries (now (a .journal)))) (panel (now (a .site)) (now (a .state))) (now (a .answers)) (now (a .state)) (s .pre .0 .1) refl)
@@ -34,7 +33,7 @@ read-requires : tie.Need-read-requires Inv-loop μ-loop
 read-requires c κs = search needs
 
 step-requires : tie.Need-step-requires Inv-loop μ-loop
-step-requires c κs = 
+step-requires c κs =
     let s = c .before .before .before .before .before .before .before .before .before in
     (s .pre .0 .0, c .before .before .before .loop .inv .3 ∙ s .pre .0 .1)
 
@@ -42,7 +41,7 @@ put-answer-requires : tie.Need-put-answer-requires Inv-loop μ-loop
 put-answer-requires c κs = search needs
 
 next-requires : tie.Need-next-requires Inv-loop μ-loop
-next-requires c κs = 
+next-requires c κs =
     let l = c .before .before .before .before .before .before .before .before .before .before in
     let i = l .loop .inv in
     let t : l .loop .k < length (now (c .before .before .before .before .before .before .before .before .before .before .before .before .before .before .before .before .args .journal)) / 24 = c .before .before .before .before .before .before .before .before .before .loop-test .taken in
@@ -55,7 +54,7 @@ loop-less : tie.Need-loop-less Inv-loop μ-loop
 loop-less c = search needs
 
 loop-again : tie.Need-loop-again Inv-loop μ-loop
-loop-again c = 
+loop-again c =
     let l = c .before .before .before .before .before .before .before .before .before .before .before in
     let s = c .before .before .before .before .before .before .before .before .before .before .before .before .before .before .before .before .before in
     let a = s .args in
@@ -81,7 +80,7 @@ same-length-2 : tie.Need-same-length-2 Inv-loop μ-loop
 same-length-2 c = search needs
 
 returns : tie.Need-returns Inv-loop μ-loop
-returns c = 
+returns c =
     let l = c .before in
     let s = c .before .before .before .before .before .before .before in
     let a = s .args in

@@ -16,12 +16,13 @@ same-length : tie.Need-same-length
 same-length c = search needs
 
 returns : tie.Need-returns
-returns c = 
+returns c =
     let s = c .before .before .before .before .before .before .before .before .before .before .before in
     let a = s .args in
-    let d = c .before .before .before .before .before .before .before .decide in
-    (c .before .before .before .apply-outcome .ensures ∙ stepped (now (a .site)) (now (a .state)) (s .pre .0) (s .pre .1) _ (d .result) (d .ensures),
-    ap (λ (o : Outcome). o .answer) (d .ensures .outcome))
+    let d = c .before .before .before .before .before .before .before .decide in (
+      c .before .before .before .apply-outcome .ensures ∙ stepped (now (a .site)) (now (a .state)) (s .pre .0) (s .pre .1) _ (d .result) (d .ensures),
+      ap (λ (o : Outcome). o .answer) (d .ensures .outcome),
+    )
 
 pub step-spec : {M : Type 1} → statement M
 step-spec = tie.close (tie.spec decide-requires apply-outcome-requires same-length returns)

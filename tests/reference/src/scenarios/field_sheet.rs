@@ -1,15 +1,11 @@
 //! The five items of the field engineer's sheet.
 
-use reference::build::{
-    journal, Credential, EntryFields, Factor, Panel, Point, Record, Zone, FORMAT,
-};
-use reference::journal::run_journal;
-use reference::numbers::{
+use crate::build::{journal, Credential, EntryFields, Factor, Panel, Point, Record, Zone, FORMAT};
+use crate::engine::Engine;
+use crate::numbers::{
     authorization_mode, credential_disable, event, factor_disable, kind, passback_mode, point_flag,
     refusal, zone_flag, NONE, RECORD_LENGTH,
 };
-use reference::site::check_site;
-use reference::state::fresh_state;
 
 const WEST: u32 = 10;
 const EAST: u32 = 20;
@@ -71,33 +67,31 @@ fn badge(time: u32, point: u32, card: [u8; 8]) -> EntryFields {
 }
 
 /// Every call turns the site back with the number and leaves its buffers as they were.
-fn assert_turned_back(site: &[u8], number: u8) {
-    assert_eq!(check_site(site), number);
+fn assert_turned_back(engine: Engine, site: &[u8], number: u8) {
+    assert_eq!((engine.check_site)(site), number);
     let mut state = vec![0xA5; site.len()];
-    assert_eq!(fresh_state(site, &mut state), number);
+    assert_eq!((engine.fresh_state)(site, &mut state), number);
     let journal = badge(100, WEST, WEST_CARD).bytes();
     let mut answers = [0x5A; 16];
-    let returned = run_journal(site, &mut state, &journal, &mut answers);
+    let returned = (engine.run_journal)(site, &mut state, &journal, &mut answers);
     assert_eq!(returned, number);
     assert!(state.iter().all(|&byte| byte == 0xA5));
     assert_eq!(answers, [0x5A; 16]);
 }
 
-#[test]
-fn item_1_a_cut_site_and_one_with_a_missing_zone_are_turned_back() {
+pub fn item_1_a_cut_site_and_one_with_a_missing_zone_are_turned_back(engine: Engine) {
     let site = west_wing(wing_zone(WEST)).concat();
-    assert_eq!(check_site(&site), refusal::ACCEPTED);
-    assert_turned_back(&site[..site.len() - 1], refusal::SITE_LENGTH);
-    assert_turned_back(&site[RECORD_LENGTH..], refusal::SITE_MISSING);
+    assert_eq!((engine.check_site)(&site), refusal::ACCEPTED);
+    assert_turned_back(engine, &site[..site.len() - 1], refusal::SITE_LENGTH);
+    assert_turned_back(engine, &site[RECORD_LENGTH..], refusal::SITE_MISSING);
 }
 
-#[test]
-fn item_2_badge_in_to_the_upper_limit_and_once_more() {
+pub fn item_2_badge_in_to_the_upper_limit_and_once_more(engine: Engine) {
     let limited = Zone {
         upper_limit: 3,
         ..wing_zone(WEST)
     };
-    let mut panel = Panel::fresh(&west_wing(limited));
+    let mut panel = Panel::fresh_by(engine, &west_wing(limited));
     for count in 1..=3 {
         let answer = panel.work(badge(100 + count, WEST, WEST_CARD));
         assert_eq!((answer.event, answer.count), (event::GRANTED, count));
@@ -110,9 +104,8 @@ fn item_2_badge_in_to_the_upper_limit_and_once_more() {
     assert_eq!((room.event, room.count), (event::GRANTED, 3));
 }
 
-#[test]
-fn item_3_walk_out_past_an_empty_count_then_in() {
-    let mut panel = Panel::fresh(&west_wing(wing_zone(WEST)));
+pub fn item_3_walk_out_past_an_empty_count_then_in(engine: Engine) {
+    let mut panel = Panel::fresh_by(engine, &west_wing(wing_zone(WEST)));
     for time in [100, 110] {
         let out = panel.work(badge(time, exit_of(WEST), WEST_CARD));
         assert_eq!(out.event, event::GRANTED);
@@ -122,14 +115,13 @@ fn item_3_walk_out_past_an_empty_count_then_in() {
     assert_eq!((into.event, into.count), (event::GRANTED, 1));
 }
 
-#[test]
-fn item_4_set_the_clock_back_an_hour_and_repeat_a_passback() {
+pub fn item_4_set_the_clock_back_an_hour_and_repeat_a_passback(engine: Engine) {
     let passback = Zone {
         passback_mode: passback_mode::HARD_PASSBACK,
         passback_timeout: 30,
         ..wing_zone(WEST)
     };
-    let mut panel = Panel::fresh(&west_wing(passback));
+    let mut panel = Panel::fresh_by(engine, &west_wing(passback));
     let entered = 50_000;
     let mut event_at = |time: u32| panel.work(badge(time, WEST, WEST_CARD)).event;
     assert_eq!(event_at(entered), event::GRANTED);
@@ -183,13 +175,12 @@ fn west_journal() -> Vec<EntryFields> {
     ]
 }
 
-#[test]
-fn item_5_editing_the_east_wings_cards_leaves_the_west_wing_as_it_was() {
+pub fn item_5_editing_the_east_wings_cards_leaves_the_west_wing_as_it_was(engine: Engine) {
     let west = west_wing(wing_zone(WEST));
     let entries = west_journal();
     // The east wing stands before the west wing in one file and after it in the other.
-    let mut before = Panel::fresh(&[east_wing(), west.clone()].concat());
-    let mut after = Panel::fresh(&[west.clone(), edited_east_wing()].concat());
+    let mut before = Panel::fresh_by(engine, &[east_wing(), west.clone()].concat());
+    let mut after = Panel::fresh_by(engine, &[west.clone(), edited_east_wing()].concat());
     let answers_before = before.run(&entries);
     let answers_after = after.run(&entries);
     assert_eq!(answers_before, answers_after);
@@ -208,11 +199,10 @@ fn item_5_editing_the_east_wings_cards_leaves_the_west_wing_as_it_was() {
 }
 
 /// The west wing's journal gives the same with east entries among its own.
-#[test]
-fn item_5_east_entries_among_the_west_entries_change_no_west_answer() {
+pub fn item_5_east_entries_among_the_west_entries_change_no_west_answer(engine: Engine) {
     let records = [west_wing(wing_zone(WEST)), east_wing()].concat();
-    let mut alone = Panel::fresh(&records);
-    let mut mixed = Panel::fresh(&records);
+    let mut alone = Panel::fresh_by(engine, &records);
+    let mut mixed = Panel::fresh_by(engine, &records);
     let entries = west_journal();
     let with_east: Vec<EntryFields> = entries
         .iter()
