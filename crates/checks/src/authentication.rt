@@ -1,13 +1,13 @@
 // Steps 1 to 4: lockout, factor timeout, factor, second factor.
 ghost use mathlib.Core.Path.{_≡_};
 ghost use Rattle.model.specs.Checks.{relinquished, stillLocked, waiting, overdue, disabledFactor, firstOfTwo, authenticationOf, authentication};
-use crate::numbers;
 use crate::words::choose_short;
 use crate::words::elapsed;
 use crate::words::short;
 use model::Authentication;
 use model::Entry;
 use model::View;
+use model::numbers;
 
 // Step 1 unlocks the point: a set relinquish time has passed.
 pub fn is_relinquished(v: View, e: Entry) -> bool

@@ -1,7 +1,6 @@
 // Steps 7 to 12: mode, threat level, rules, passback, limits, grant.
 ghost use mathlib.Core.Path.{_≡_};
 ghost use Rattle.model.specs.Checks.{intoZone, passbackViolated, atLowerLimit, atUpperLimit, authorizationOf, authorization, passage};
-use crate::numbers;
 use crate::words::choose_short;
 use crate::words::elapsed;
 use crate::words::of_minutes;
@@ -10,6 +9,7 @@ use model::Authorization;
 use model::Entry;
 use model::Verdict;
 use model::View;
+use model::numbers;
 
 pub fn is_into_zone(v: View) -> bool
     ensures { λ r. ⌜ r ≡ intoZone v ⌝ }

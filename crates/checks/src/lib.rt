@@ -5,7 +5,6 @@ ghost use Rattle.checks.specs.Asks.{asksRules, noVerdict};
 
 pub mod authentication;
 pub mod authorization;
-pub mod numbers;
 pub mod validity;
 pub mod words;
 
@@ -17,9 +16,13 @@ use authorization::passage_of;
 use model::Entry;
 use model::Verdict;
 use model::View;
+use model::numbers;
 use validity::validate;
 use validity::validity_of;
 use words::choose_short;
+
+// No event has this number: it stands for "no step gave an event yet".
+const NEXT: u16 = 65535;
 
 // The first step that gives an event ends the checks; step 6 skips to step 11 for a master.
 pub fn event_of(v: View, rules: Verdict, e: Entry) -> u16
@@ -38,12 +41,12 @@ pub fn event_of(v: View, rules: Verdict, e: Entry) -> u16
 pub fn asks_rules(v: View, e: Entry) -> bool
     ensures { λ r. ⌜ r ≡ asksRules v e ⌝ }
 {
-    let before = validate(validity_of(v, e), numbers::NEXT);
+    let before = validate(validity_of(v, e), NEXT);
     let event = authenticate(authentication_of(v, e), before);
     (v.point.mode == numbers::MODE_AUTHORIZE)
         & !v.credential.master
         & !(v.credential.threat_authority < v.point.threat_level)
-        & (event == numbers::NEXT)
+        & (event == NEXT)
 }
 
 // What stands for the rules where they are not needed.

@@ -1,13 +1,13 @@
 // Step 5: the credential's dates, disable, uses and last use.
 ghost use mathlib.Core.Path.{_≡_};
 ghost use Rattle.model.specs.Checks.{inactive, validityOf, validity};
-use crate::numbers;
 use crate::words::elapsed;
 use crate::words::of_days;
 use crate::words::wide;
 use model::Entry;
 use model::Validity;
 use model::View;
+use model::numbers;
 
 // Used before, and longer ago than the absentee days.
 pub fn is_inactive(last: u32, days: u16, time: u32) -> bool

@@ -4,7 +4,7 @@ ghost use Prim.Native.Nat.{_*_};
 ghost use Rattle.model.specs.Words.{if_then_else_};
 ghost use Rattle.model.specs.Checks as m;
 ghost use Rattle.model.specs.Numbers as n;
-use crate::numbers;
+use model::numbers;
 
 // The time from `since` to `now`, or 0 where now is earlier.
 pub fn elapsed(now: u32, since: u32) -> u32

@@ -4,15 +4,15 @@ ghost use Rattle.model.specs.Effects.{zoneAfter, usesAfter, losesDay, daysAfter
 use crate::words::date_of;
 use crate::words::one_less;
 use checks::authorization::is_into_zone;
-use checks::numbers::GRANTED;
-use checks::numbers::NEVER;
-use checks::numbers::NONE;
-use checks::numbers::UNLIMITED;
 use checks::words::choose_long;
 use checks::words::choose_short;
 use model::CredentialState;
 use model::Entry;
 use model::View;
+use model::numbers::GRANTED;
+use model::numbers::NEVER;
+use model::numbers::NONE;
+use model::numbers::UNLIMITED;
 
 // A grant takes the credential into Zone_To, or out of Zone_From to nowhere.
 pub fn zone_after(v: View, x: u16) -> u32

@@ -3,18 +3,18 @@ ghost use mathlib.Core.Path.{_≡_};
 ghost use Rattle.octets.specs.Octets.{same};
 ghost use Rattle.model.specs.Words.{zeros};
 ghost use Rattle.model.specs.Entry.{operationOf, noAmount, noValue, argumentsFit, inForm};
-use crate::numbers::ARGUMENT_LOCK;
-use crate::numbers::FORMAT_UNDEFINED;
-use crate::numbers::LARGEST_DISABLE;
-use crate::numbers::OPERATION_ADJUST_COUNT;
-use crate::numbers::OPERATION_FACTOR;
-use crate::numbers::OPERATION_SET_COUNT;
-use crate::numbers::OPERATION_SET_DISABLE;
-use crate::numbers::OPERATION_SET_SERVICE;
-use checks::numbers::NEVER;
-use checks::numbers::NONE;
 use model::Entry;
 use model::Operation;
+use model::numbers::ARGUMENT_LOCK;
+use model::numbers::FORMAT_UNDEFINED;
+use model::numbers::LARGEST_DISABLE;
+use model::numbers::NEVER;
+use model::numbers::NONE;
+use model::numbers::OPERATION_ADJUST_COUNT;
+use model::numbers::OPERATION_FACTOR;
+use model::numbers::OPERATION_SET_COUNT;
+use model::numbers::OPERATION_SET_DISABLE;
+use model::numbers::OPERATION_SET_SERVICE;
 
 // The operation of a number.
 pub fn operation_of(n: u8) -> Operation

@@ -1,5 +1,4 @@
 // What an entry does, by value: what follows from the event of a factor read, and the outcomes of the other operations.
-pub mod numbers; // numbers.rt: operations, their arguments, refusals
 pub mod words; // words.rt: sums and differences of numbers
 pub mod form; // form.rt: the operation that an entry asks for, and refusal 7
 pub mod point; // point.rt: failures, lockout and wait at the point

@@ -2,18 +2,7 @@
 ghost use mathlib.Core.Path.{_≡_};
 ghost use Rattle.model.specs.Numbers.{not-refused};
 ghost use Rattle.model.specs.Step.{noPoint, noCredential, noCount, noAnswer, unchanged, refuse, countOutcome, adjusted, adjustOutcome, disableAfter, disableOutcome, locks, serviceAfter, serviceOutcome};
-use crate::numbers::ARGUMENT_LOCK;
-use crate::numbers::FIRST_NEGATIVE;
-use crate::numbers::REFUSED_COUNT;
 use crate::words::next_tag;
-use checks::numbers::LARGEST_COUNT;
-use checks::numbers::LOCKOUT_OTHER;
-use checks::numbers::LOCKOUT_RELINQUISHED;
-use checks::numbers::MODULUS;
-use checks::numbers::NEVER;
-use checks::numbers::NO_EVENT;
-use checks::numbers::NONE;
-use checks::numbers::NOT_REFUSED;
 use checks::words::choose_byte;
 use checks::words::choose_long;
 use checks::words::choose_short;
@@ -25,6 +14,17 @@ use model::Entry;
 use model::Outcome;
 use model::PointState;
 use model::PointWrite;
+use model::numbers::ARGUMENT_LOCK;
+use model::numbers::FIRST_NEGATIVE;
+use model::numbers::LARGEST_COUNT;
+use model::numbers::LOCKOUT_OTHER;
+use model::numbers::LOCKOUT_RELINQUISHED;
+use model::numbers::MODULUS;
+use model::numbers::NEVER;
+use model::numbers::NO_EVENT;
+use model::numbers::NONE;
+use model::numbers::NOT_REFUSED;
+use model::numbers::REFUSED_COUNT;
 
 // ---- what an outcome leaves unwritten
 

@@ -9,14 +9,6 @@ use crate::words::of_byte;
 use crate::words::one_more;
 use checks::authentication::is_relinquished;
 use checks::authentication::is_still_locked;
-use checks::numbers::DENIED_AUTHENTICATION_FACTOR_ERROR;
-use checks::numbers::DENIED_AUTHENTICATION_FACTOR_TIMEOUT;
-use checks::numbers::DENIED_INCORRECT_AUTHENTICATION_FACTOR;
-use checks::numbers::DENIED_LOCKOUT;
-use checks::numbers::DENIED_UNKNOWN_CREDENTIAL;
-use checks::numbers::GRANTED;
-use checks::numbers::NO_EVENT;
-use checks::numbers::NONE;
 use checks::words::choose_byte;
 use checks::words::choose_long;
 use checks::words::choose_short;
@@ -24,6 +16,14 @@ use checks::words::elapsed;
 use model::Entry;
 use model::PointState;
 use model::View;
+use model::numbers::DENIED_AUTHENTICATION_FACTOR_ERROR;
+use model::numbers::DENIED_AUTHENTICATION_FACTOR_TIMEOUT;
+use model::numbers::DENIED_INCORRECT_AUTHENTICATION_FACTOR;
+use model::numbers::DENIED_LOCKOUT;
+use model::numbers::DENIED_UNKNOWN_CREDENTIAL;
+use model::numbers::GRANTED;
+use model::numbers::NO_EVENT;
+use model::numbers::NONE;
 
 // The event is a failure, at a point that counts failures.
 pub fn is_failure(v: View, x: u16) -> bool

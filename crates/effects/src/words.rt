@@ -2,8 +2,8 @@
 ghost use mathlib.Core.Path.{_≡_};
 ghost use Prim.Native.Nat.{_+_, _-_};
 ghost use Rattle.model.specs.Effects.{nextTag, date};
-use checks::numbers::MODULUS;
-use checks::numbers::SECONDS_OF_DAY;
+use model::numbers::MODULUS;
+use model::numbers::SECONDS_OF_DAY;
 
 // The tag that follows: after the largest comes 0.
 pub fn next_tag(tag: u32) -> u32

@@ -5,13 +5,13 @@ ghost use lib.ListN.{length};
 ghost use Rattle.model.specs.State.{zoneBytes, pointBytes, credentialBytes};
 ghost use Rattle.journal.specs.Places.{storedAt, written, applied};
 use super::Places;
-use checks::numbers;
 use model::CountWrite;
 use model::CredentialState;
 use model::CredentialWrite;
 use model::Outcome;
 use model::PointState;
 use model::PointWrite;
+use model::numbers;
 use site::Place;
 
 fn store_count(state: &mut [u8], i: usize, count: u32)

@@ -1,6 +1,8 @@
 // The values of document 01 as structs and enums: what the definitions in specs/ speak of and what the engine passes by value.
 // A struct for each kind of record holds the fields that decisions read; rules and factors are read in place, out of their records.
 
+pub mod numbers; // numbers.rt: the numbers of document 01 by name
+
 // The fields of a zone's site record.
 pub struct Zone {
     pub counting: bool,

@@ -1,6 +1,5 @@
 // Site and state records, entries and answers between bytes and structs by value.
 // A part is a record's 32 bytes, or the empty part of a record that was not found: it reads as zeros and names nothing.
-pub mod numbers;
 
 use model::Answer;
 use model::Credential;
@@ -9,7 +8,7 @@ use model::Entry;
 use model::Point;
 use model::PointState;
 use model::Zone;
-use numbers::NONE;
+use model::numbers::NONE;
 ghost use mathlib.Core.Path.{_≡_};
 ghost use mathlib.Core.Bool.{false};
 ghost use Prim.Native.Nat.{_+_, _≤_, _<_};

@@ -1,16 +1,15 @@
 // Step 9 of the order of checks: what the enabled rules of a credential's rights say at a point and a time.
 // The fields of a rule are read out of its record, a 32-byte part of the lent site.
-pub mod numbers;
 
 use model::Verdict;
-use numbers::ACCESS_POINT;
-use numbers::ACCESS_RULE;
-use numbers::ACCESS_ZONE;
-use numbers::DAYS_OF_WEEK;
-use numbers::MINUTES_OF_DAY;
-use numbers::SECONDS_OF_DAY;
-use numbers::SECONDS_OF_MINUTE;
-use records::numbers::NONE;
+use model::numbers::ACCESS_POINT;
+use model::numbers::ACCESS_RULE;
+use model::numbers::ACCESS_ZONE;
+use model::numbers::DAYS_OF_WEEK;
+use model::numbers::MINUTES_OF_DAY;
+use model::numbers::NONE;
+use model::numbers::SECONDS_OF_DAY;
+use model::numbers::SECONDS_OF_MINUTE;
 ghost use mathlib.Core.Path.{_≡_};
 ghost use mathlib.Core.List.{[], _∷_};
 ghost use mathlib.Core.Bool.{not, _&&_};

@@ -8,13 +8,6 @@ ghost use Rattle.model.specs.Site.{records};
 ghost use Rattle.model.specs.Accept as Accept;
 ghost use Rattle.model.specs.Calls.{checkSite};
 ghost use Rattle.site.specs.Parts.{zonesExist, locationExists};
-use super::ACCESS_CREDENTIAL;
-use super::ACCESS_POINT;
-use super::ACCESS_RULE;
-use super::ACCESS_ZONE;
-use super::AUTHENTICATION_FACTOR;
-use super::NONE;
-use super::ROLE_IDENTIFYING;
 use super::lookup::find;
 use super::lookup::record_at;
 use super::lookup::record_count;
@@ -22,6 +15,13 @@ use super::lookup::same_eight;
 use super::range::in_range;
 use super::range::is_everywhere;
 use model::Returned;
+use model::numbers::ACCESS_CREDENTIAL;
+use model::numbers::ACCESS_POINT;
+use model::numbers::ACCESS_RULE;
+use model::numbers::ACCESS_ZONE;
+use model::numbers::AUTHENTICATION_FACTOR;
+use model::numbers::NONE;
+use model::numbers::ROLE_IDENTIFYING;
 
 const RECORD_SIZE: usize = 32;
 

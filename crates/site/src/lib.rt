@@ -17,20 +17,3 @@ pub enum Place {
     At(usize),
     Nothing,
 }
-
-// Numbers of document 01, by the names of the model's Numbers.
-pub const NONE: u32 = 4194303;
-
-pub const ACCESS_ZONE: u8 = 1;
-
-pub const ACCESS_POINT: u8 = 2;
-
-pub const ACCESS_RULE: u8 = 3;
-
-pub const ACCESS_CREDENTIAL: u8 = 4;
-
-pub const AUTHENTICATION_FACTOR: u8 = 5;
-
-pub const ROLE_IDENTIFYING: u8 = 1;
-
-pub const ROLE_CONFIRMING: u8 = 2;

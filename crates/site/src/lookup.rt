@@ -9,18 +9,18 @@ ghost use Rattle.model.specs.Site as Site;
 ghost use Rattle.model.specs.Site.{records, isAt, findIn, lookup};
 ghost use Rattle.model.specs.Checks.{presents, identifying, confirming};
 ghost use Rattle.site.specs.Place.{placeOf};
-use super::ACCESS_CREDENTIAL;
-use super::ACCESS_POINT;
-use super::ACCESS_RULE;
-use super::ACCESS_ZONE;
-use super::AUTHENTICATION_FACTOR;
 use super::CredentialId;
 use super::Place;
 use super::PointId;
-use super::ROLE_CONFIRMING;
-use super::ROLE_IDENTIFYING;
 use super::RightsId;
 use super::ZoneId;
+use model::numbers::ACCESS_CREDENTIAL;
+use model::numbers::ACCESS_POINT;
+use model::numbers::ACCESS_RULE;
+use model::numbers::ACCESS_ZONE;
+use model::numbers::AUTHENTICATION_FACTOR;
+use model::numbers::ROLE_CONFIRMING;
+use model::numbers::ROLE_IDENTIFYING;
 
 pub fn record_count(site: &[u8]) -> usize
     ensures { λ r. ⌜ r ≡ length (records (now (site .entry))) ⌝ }

@@ -5,18 +5,17 @@ ghost use lib.ListN.{length};
 ghost use Rattle.model.specs.Site.{everywhere};
 ghost use Rattle.model.specs.Accept.{clear, zoneInRange, pointInRange, ruleInRange, credentialInRange, factorInRange, inRange};
 ghost use Rattle.site.specs.Parts.{locationInRange};
-use super::ACCESS_CREDENTIAL;
-use super::ACCESS_POINT;
-use super::ACCESS_RULE;
-use super::ACCESS_ZONE;
-use super::AUTHENTICATION_FACTOR;
-use super::NONE;
+use model::numbers::ACCESS_CREDENTIAL;
+use model::numbers::ACCESS_POINT;
+use model::numbers::ACCESS_RULE;
+use model::numbers::ACCESS_ZONE;
+use model::numbers::AUTHENTICATION_FACTOR;
+use model::numbers::LARGEST_DISABLE;
+use model::numbers::NONE;
 
 const LARGEST_THREAT: u8 = 100;
 
-const LARGEST_DISABLE: u8 = 3;
-
-const MINUTES_OF_DAY: u16 = 1440;
+const LARGEST_MINUTE: u16 = 1440;
 
 // Whether n bytes are zero.
 pub fn is_clear(part: &[u8], at: usize, n: usize) -> bool
@@ -91,7 +90,7 @@ fn rule_in_range(part: &[u8]) -> bool
         & (octets::get_u8(part, 3) < 128)
         & location_in_range(part)
         & (from <= to)
-        & (to <= MINUTES_OF_DAY)
+        & (to <= LARGEST_MINUTE)
         & is_clear(part, 16, 16)
 }
 

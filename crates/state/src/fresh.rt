@@ -4,12 +4,12 @@ ghost use mathlib.Core.List.{_++_};
 ghost use Prim.Native.Nat.{_+_, _*_, _/_, _%_, _<_};
 ghost use lib.ListN.{length, take, drop};
 ghost use Rattle.model.specs.State.{freshPoint, freshCredential, freshRecord, fresh};
-use super::numbers::NEVER;
 use model::CredentialState;
 use model::PointState;
-use site::ACCESS_CREDENTIAL;
-use site::ACCESS_POINT;
-use site::NONE;
+use model::numbers::ACCESS_CREDENTIAL;
+use model::numbers::ACCESS_POINT;
+use model::numbers::NEVER;
+use model::numbers::NONE;
 
 fn fresh_point() -> PointState
     ensures { λ r. ⌜ r ≡ freshPoint ⌝ }

@@ -1,4 +1,3 @@
 // The state file, over lent bytes: the fresh state of a site, and whether a state is well formed.
-pub mod numbers; // numbers.rt: numbers of document 01
 pub mod fresh; // fresh.rt: the fresh state
 pub mod well; // well.rt: whether a state is well formed

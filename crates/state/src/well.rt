@@ -4,11 +4,11 @@ ghost use Prim.Native.Nat.{_%_};
 ghost use lib.ListN.{length};
 ghost use Rattle.model.specs.Site.{records};
 ghost use Rattle.model.specs.State.{zoneWell, failuresWell, pointWell, credentialWell, recordWell, wellFormed};
-use super::numbers::LARGEST_DISABLE;
-use site::ACCESS_CREDENTIAL;
-use site::ACCESS_POINT;
-use site::ACCESS_ZONE;
-use site::NONE;
+use model::numbers::ACCESS_CREDENTIAL;
+use model::numbers::ACCESS_POINT;
+use model::numbers::ACCESS_ZONE;
+use model::numbers::LARGEST_DISABLE;
+use model::numbers::NONE;
 use site::check::none_or_exists;
 use site::range::is_clear;
 

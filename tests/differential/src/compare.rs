@@ -7,6 +7,7 @@ use reference::journal;
 use reference::numbers::{refusal, ANSWER_LENGTH, ENTRY_LENGTH, RECORD_LENGTH};
 use reference::{site, state};
 use std::fmt::Write;
+use std::ops::Range;
 
 /// A call of one engine on the buffers that it takes of a case.
 type Call = fn(&mut Case) -> u8;
@@ -75,7 +76,8 @@ fn guarded(buffer: &mut [u8], call: impl FnOnce(&mut [u8]) -> u8) -> u8 {
 fn agreed(proved: Call, reference: Call, case: &mut Case) -> u8 {
     let disagree = |case: &Case| called(proved, case) != called(reference, case);
     let (returned, after) = called(proved, case);
-    if (returned, &after) != (called(reference, case).0, &called(reference, case).1) {
+    let (expected, reference_after) = called(reference, case);
+    if returned != expected || after != reference_after {
         let case = smallest(case, disagree);
         panic!("{}", report(proved, reference, &case));
     }
@@ -94,36 +96,59 @@ fn called(call: Call, case: &Case) -> (u8, Case) {
 
 /// The case without the entries and records that its fault does not need.
 fn smallest(case: &Case, has_fault: impl Fn(&Case) -> bool) -> Case {
-    let mut smallest = case.clone();
-    while let Some(smaller) = smaller(&smallest).find(|case| has_fault(case)) {
-        smallest = smaller;
-    }
-    smallest
-}
-
-/// The case without one of its entries, or without one of its records.
-fn smaller(case: &Case) -> impl Iterator<Item = Case> + '_ {
     let entries = case.journal.len() / ENTRY_LENGTH;
     let records = case.site.len() / RECORD_LENGTH;
-    let without_entry = (0..entries).map(|entry| Case {
-        journal: without(&case.journal, ENTRY_LENGTH, entry),
-        answers: without(&case.answers, ANSWER_LENGTH, entry),
-        ..case.clone()
-    });
-    let without_record = (0..records).map(|record| Case {
-        site: without(&case.site, RECORD_LENGTH, record),
-        state: without(&case.state, RECORD_LENGTH, record),
-        ..case.clone()
-    });
-    without_entry.chain(without_record)
+    let case = cut(case.clone(), entries, without_entries, &has_fault);
+    cut(case, records, without_records, &has_fault)
 }
 
-/// Bytes without one of their units, where they have it whole.
-fn without(bytes: &[u8], unit: usize, index: usize) -> Vec<u8> {
+/// Leaves out units that the fault does not need: large parts first, since a case may be long, and
+/// at last each unit alone.
+fn cut(
+    mut case: Case,
+    mut units: usize,
+    without: fn(&Case, &Range<usize>) -> Case,
+    has_fault: impl Fn(&Case) -> bool,
+) -> Case {
+    let mut size = units;
+    while size > 0 {
+        let mut start = 0;
+        while start < units {
+            let part = start..units.min(start + size);
+            let smaller = without(&case, &part);
+            if has_fault(&smaller) {
+                case = smaller;
+                units -= part.len();
+            } else {
+                start = part.end;
+            }
+        }
+        size /= 2;
+    }
+    case
+}
+
+fn without_entries(case: &Case, part: &Range<usize>) -> Case {
+    Case {
+        journal: without(&case.journal, ENTRY_LENGTH, part),
+        answers: without(&case.answers, ANSWER_LENGTH, part),
+        ..case.clone()
+    }
+}
+
+fn without_records(case: &Case, part: &Range<usize>) -> Case {
+    Case {
+        site: without(&case.site, RECORD_LENGTH, part),
+        state: without(&case.state, RECORD_LENGTH, part),
+        ..case.clone()
+    }
+}
+
+/// Bytes without a part of their units, where they have it whole.
+fn without(bytes: &[u8], unit: usize, part: &Range<usize>) -> Vec<u8> {
     let mut bytes = bytes.to_vec();
-    let part = index * unit..(index + 1) * unit;
-    if part.end <= bytes.len() {
-        bytes.drain(part);
+    if part.end * unit <= bytes.len() {
+        bytes.drain(part.start * unit..part.end * unit);
     }
     bytes
 }
@@ -158,4 +183,66 @@ fn rows(name: &str, bytes: &[u8], unit: usize) -> String {
         text.push('\n');
     }
     text
+}
+
+#[cfg(test)]
+mod tests {
+    use super::*;
+    use reference::numbers::event;
+    use reference::scenarios::paper_cases::{printed_journal, printed_site};
+
+    /// The paper's site and journal, from the fresh state.
+    fn paper_case() -> Case {
+        let (site, journal) = (printed_site(), printed_journal());
+        let mut case = Case {
+            state: vec![0; site.len()],
+            answers: vec![0; journal.len() / ENTRY_LENGTH * ANSWER_LENGTH],
+            site,
+            journal,
+        };
+        state::fresh_state(&case.site, &mut case.state);
+        case
+    }
+
+    /// An engine whose answer to an unknown card counts one too many.
+    fn run_with_a_wrong_answer(case: &mut Case) -> u8 {
+        let returned = reference_run(case);
+        let unknown = event::DENIED_UNKNOWN_CREDENTIAL.to_be_bytes();
+        for answer in case.answers.chunks_exact_mut(ANSWER_LENGTH) {
+            if answer.starts_with(&unknown) {
+                answer[ANSWER_LENGTH - 1] += 1;
+            }
+        }
+        returned
+    }
+
+    /// An engine that writes the state although it turns the call back.
+    fn run_that_writes(case: &mut Case) -> u8 {
+        case.state.fill(0);
+        reference_run(case)
+    }
+
+    #[test]
+    #[should_panic(expected = "the engines disagree")]
+    fn a_wrong_answer_is_noticed() {
+        agreed(run_with_a_wrong_answer, reference_run, &mut paper_case());
+    }
+
+    #[test]
+    #[should_panic(expected = "a call turned back changed a buffer")]
+    fn a_change_by_a_call_turned_back_is_noticed_also_where_both_engines_make_it() {
+        let mut case = paper_case();
+        case.answers.clear();
+        agreed(run_that_writes, run_that_writes, &mut case);
+    }
+
+    /// The unknown card, read third, needs no other entry, and of the site the point and its zone.
+    #[test]
+    fn a_case_is_cut_to_what_its_fault_needs() {
+        let wrong =
+            |case: &Case| called(run_with_a_wrong_answer, case) != called(reference_run, case);
+        let case = smallest(&paper_case(), wrong);
+        assert_eq!(case.site, printed_site()[..2 * RECORD_LENGTH]);
+        assert_eq!(case.journal, printed_journal()[2 * ENTRY_LENGTH..]);
+    }
 }

@@ -1,8 +1,21 @@
 //! The proved engine beside the `reference` crate: its calls, the comparison of one call through
-//! both engines, and the settings of the tests.
+//! both engines, and what the tests share.
+//!
+//! At the repository's root, `rt staticlib panel` writes the library that is linked here and
+//! `rt check` the printing program. Then:
+//!
+//! ```text
+//! cargo test --release --offline --manifest-path tests/Cargo.toml
+//! cargo run --release --offline --manifest-path tests/Cargo.toml --bin bench
+//! ```
+//!
+//! WARBLEHAY_SEED and WARBLEHAY_CASES set another seed and another number of random cases,
+//! WARBLEHAY_LIB_DIR and WARBLEHAY_BIN_DIR other places of the library and of the program. Where CI
+//! is set, the program must be there.
 
 #![deny(unsafe_code)]
 
 pub mod compare;
 pub mod proved;
 pub mod settings;
+pub mod small;

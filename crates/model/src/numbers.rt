@@ -1,4 +1,4 @@
-// The numbers of document 01 that the engine's code uses, by the names that BACnet (source 002) gives them. Each stands here once.
+// The numbers of document 01 that the engine uses, by the names that BACnet (source 002) gives them. The definitions' are in specs/Numbers.antt.
 
 // No instance; a time that never was, or the end of time; no limit of uses, days or absentee days.
 pub const NONE: u32 = 4194303;
@@ -14,7 +14,27 @@ pub const MODULUS: u64 = 4294967296;
 
 pub const SECONDS_OF_MINUTE: u32 = 60;
 
+pub const MINUTES_OF_DAY: u32 = 1440;
+
 pub const SECONDS_OF_DAY: u32 = 86400;
+
+pub const DAYS_OF_WEEK: u32 = 7;
+
+// Kinds of records; a rule's location kinds are those of zone and point.
+pub const ACCESS_ZONE: u8 = 1;
+
+pub const ACCESS_POINT: u8 = 2;
+
+pub const ACCESS_RULE: u8 = 3;
+
+pub const ACCESS_CREDENTIAL: u8 = 4;
+
+pub const AUTHENTICATION_FACTOR: u8 = 5;
+
+// Roles of factors.
+pub const ROLE_IDENTIFYING: u8 = 1;
+
+pub const ROLE_CONFIRMING: u8 = 2;
 
 // Fields of records and entries.
 pub const PASSBACK_HARD: u8 = 1;
@@ -108,9 +128,6 @@ pub const DENIED_LOCKOUT: u16 = 161;
 
 pub const DENIED_OTHER: u16 = 164;
 
-// No event has this number: it stands for "no step gave an event yet".
-pub const NEXT: u16 = 65535;
-
 // The refusal of an answer that refuses nothing.
 pub const NOT_REFUSED: u8 = 0;
 
@@ -128,3 +145,31 @@ pub const MARK_LOCKOUT_MAX_ATTEMPTS: u8 = 16;
 pub const MARK_EXTENDED_UNLOCK: u8 = 32;
 
 pub const MARK_LOCKOUT_RELINQUISHED: u8 = 64;
+
+// Amounts from here on are negative.
+pub const FIRST_NEGATIVE: u32 = 2147483648;
+
+// Operations.
+pub const OPERATION_FACTOR: u8 = 1;
+
+pub const OPERATION_SET_COUNT: u8 = 2;
+
+pub const OPERATION_ADJUST_COUNT: u8 = 3;
+
+pub const OPERATION_SET_DISABLE: u8 = 4;
+
+pub const OPERATION_SET_SERVICE: u8 = 5;
+
+// Their arguments.
+pub const FORMAT_UNDEFINED: u8 = 0;
+
+pub const LARGEST_DISABLE: u8 = 3;
+
+pub const ARGUMENT_LOCK: u8 = 1;
+
+// Refusals in an answer.
+pub const REFUSED_FORM: u8 = 7;
+
+pub const REFUSED_NO_OBJECT: u8 = 8;
+
+pub const REFUSED_COUNT: u8 = 9;

@@ -1,0 +1,223 @@
+//! Times of the proved engine and of the reference on the largest site with the largest journal.
+//! It asserts only that the engines agree, no time.
+
+use differential::proved::PROVED;
+use reference::build::{
+    journal, Credential, EntryFields, Factor, Point, Record, Rule, Zone, FORMAT,
+};
+use reference::engine::{Engine, REFERENCE};
+use reference::generate::Random;
+use reference::numbers::{
+    event, location_kind, point_flag, refusal, rule_flag, zone_flag, ANSWER_LENGTH, ENTRY_LENGTH,
+    EVERY_DAY, MINUTES_PER_DAY, MOST_JOURNAL_BYTES, MOST_SITE_BYTES, RECORD_LENGTH, VALUE_LENGTH,
+};
+use std::hint::black_box;
+use std::time::{Duration, Instant};
+
+const RECORDS: usize = MOST_SITE_BYTES / RECORD_LENGTH;
+const ENTRIES: usize = MOST_JOURNAL_BYTES / ENTRY_LENGTH;
+const REPETITIONS: usize = 21;
+
+const ZONES: u32 = 20;
+const POINTS: u32 = 40;
+/// Rights numbers, each with an equal share of the rules.
+const RIGHTS: u32 = 20;
+
+/// A site with this many credentials, each with one factor; rules fill the rest.
+struct Shape {
+    name: &'static str,
+    credentials: u32,
+}
+
+const SHAPES: [Shape; 2] = [
+    Shape {
+        name: "many rules",
+        credentials: 100,
+    },
+    Shape {
+        name: "many credentials",
+        credentials: 950,
+    },
+];
+
+fn card(credential: u32) -> [u8; VALUE_LENGTH] {
+    (0x0055_0000 + u64::from(credential)).to_be_bytes()
+}
+
+fn zone(instance: u32) -> Record {
+    Zone {
+        flags: zone_flag::OCCUPANCY_COUNT_ENABLE,
+        ..Zone::new(instance)
+    }
+    .record()
+}
+
+/// A point that asks the rules and counts.
+fn point(instance: u32) -> Record {
+    Point {
+        flags: point_flag::OCCUPANCY_COUNT_ADJUST,
+        zone_to: instance % ZONES,
+        zone_from: (instance + 1) % ZONES,
+        ..Point::new(instance)
+    }
+    .record()
+}
+
+/// The first rule of each rights number fits everywhere, so that most cards are granted; the others
+/// fit at one zone.
+fn rule(number: u32) -> Record {
+    if number < RIGHTS {
+        return Rule::new(number).record();
+    }
+    Rule {
+        flags: rule_flag::ENABLE,
+        location_kind: location_kind::ZONE,
+        location: number / RIGHTS % ZONES,
+        days: EVERY_DAY,
+        to: MINUTES_PER_DAY,
+        ..Rule::new(number % RIGHTS)
+    }
+    .record()
+}
+
+fn credential(instance: u32) -> Record {
+    Credential {
+        rights: [instance % RIGHTS, (instance + 7) % RIGHTS],
+        ..Credential::new(instance)
+    }
+    .record()
+}
+
+fn site(shape: &Shape) -> Vec<u8> {
+    let rules = RECORDS as u32 - ZONES - POINTS - 2 * shape.credentials;
+    let records = (0..ZONES)
+        .map(zone)
+        .chain((0..POINTS).map(point))
+        .chain((0..rules).map(rule))
+        .chain((0..shape.credentials).map(credential))
+        .chain(
+            (0..shape.credentials).map(|instance| Factor::new(instance, card(instance)).record()),
+        );
+    records.flatten().collect()
+}
+
+/// Cards at points, one in 16 of them unknown.
+fn reads(shape: &Shape) -> Vec<u8> {
+    let mut random = Random::new(1);
+    let entries: Vec<EntryFields> = (0..ENTRIES as u32)
+        .map(|number| {
+            let point = random.below(POINTS as usize) as u32;
+            let known = random.below(shape.credentials as usize) as u32;
+            let credential = if random.sixteenths(1) {
+                RECORDS as u32
+            } else {
+                known
+            };
+            EntryFields::read_factor(10 * number, point, FORMAT, card(credential))
+        })
+        .collect();
+    journal(&entries)
+}
+
+/// The buffers of one engine. They are reset before each run, outside its time.
+struct Bench<'a> {
+    engine: Engine,
+    site: &'a [u8],
+    journal: &'a [u8],
+    state: Vec<u8>,
+    answers: Vec<u8>,
+}
+
+impl<'a> Bench<'a> {
+    fn new(engine: Engine, site: &'a [u8], journal: &'a [u8]) -> Bench<'a> {
+        Bench {
+            engine,
+            site,
+            journal,
+            state: vec![0; site.len()],
+            answers: vec![0; journal.len() / ENTRY_LENGTH * ANSWER_LENGTH],
+        }
+    }
+
+    fn time_check(&self) -> Duration {
+        let start = Instant::now();
+        let returned = (self.engine.check_site)(black_box(self.site));
+        let time = start.elapsed();
+        assert_eq!(returned, refusal::ACCEPTED);
+        time
+    }
+
+    fn time_run(&mut self) -> Duration {
+        let returned = (self.engine.fresh_state)(self.site, &mut self.state);
+        assert_eq!(returned, refusal::ACCEPTED);
+        self.answers.fill(0);
+        let journal = black_box(self.journal);
+        let start = Instant::now();
+        let run = self.engine.run_journal;
+        let returned = run(self.site, &mut self.state, journal, &mut self.answers);
+        let time = start.elapsed();
+        assert_eq!(returned, refusal::ACCEPTED);
+        time
+    }
+
+    fn granted(&self) -> usize {
+        let events = self.answers.chunks_exact(ANSWER_LENGTH);
+        let granted = event::GRANTED.to_be_bytes();
+        events.filter(|answer| answer[..2] == granted).count()
+    }
+}
+
+/// The medians of both engines, timed in turn so that a busy machine slows both.
+fn medians<'a>(
+    mut one: Bench<'a>,
+    mut other: Bench<'a>,
+    time: fn(&mut Bench<'a>) -> Duration,
+) -> (Duration, Duration) {
+    let (mut ones, mut others) = (Vec::new(), Vec::new());
+    for _ in 0..REPETITIONS {
+        ones.push(time(&mut one));
+        others.push(time(&mut other));
+    }
+    assert!(one.state == other.state && one.answers == other.answers);
+    (median(ones), median(others))
+}
+
+fn median(mut times: Vec<Duration>) -> Duration {
+    times.sort();
+    times[times.len() / 2]
+}
+
+fn print_row(shape: &Shape, call: &str, (proved, reference): (Duration, Duration)) {
+    let milliseconds = |time: Duration| time.as_secs_f64() * 1e3;
+    println!(
+        "{:<18}{call:<13}{:>10.3} ms{:>10.3} ms{:>8.2}",
+        shape.name,
+        milliseconds(proved),
+        milliseconds(reference),
+        proved.as_secs_f64() / reference.as_secs_f64(),
+    );
+}
+
+fn main() {
+    println!("{RECORDS} records, {ENTRIES} entries; medians of {REPETITIONS} repetitions, the engines in turn.");
+    println!("Before each run_journal, outside its time, the state is reset to fresh and the answers to zero.");
+    println!(
+        "{:<18}{:<13}{:>13}{:>13}{:>8}",
+        "site", "call", "proved", "reference", "ratio"
+    );
+    for shape in &SHAPES {
+        let (site, journal) = (site(shape), reads(shape));
+        assert_eq!(
+            (site.len(), journal.len()),
+            (MOST_SITE_BYTES, MOST_JOURNAL_BYTES)
+        );
+        let bench = |engine| Bench::new(engine, &site, &journal);
+        let checks = medians(bench(PROVED), bench(REFERENCE), |bench| bench.time_check());
+        print_row(shape, "check_site", checks);
+        let runs = medians(bench(PROVED), bench(REFERENCE), Bench::time_run);
+        print_row(shape, "run_journal", runs);
+        let mut worked = bench(PROVED);
+        worked.time_run();
+        println!("{:<18}{} of {ENTRIES} granted", "", worked.granted());
+    }
+}
