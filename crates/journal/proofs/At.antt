@@ -1,57 +1,31 @@
 -- What is read and written at a record's place is what the panel of site and state has there.
 use Prim.Native.Nat.{ℕ, zero, suc, _+_, _-_, _*_, _/_, _%_, _≤_, _<_}
 use native.Mathlib.Omega.{arith}
-use native.Mathlib.Nat.{suc-mul, add-comm}
-use mathlib.Core.Path.{_≡_, refl, sym, _∙_, ap, ap₂}
+use mathlib.Core.Path.{_≡_, refl, sym, _∙_, ap}
 use mathlib.Core.List.{List, [], _∷_, _++_, append-assoc, map, flatten}
 use mathlib.Core.Bool.{Bool, true, false, not, _&&_}
 use lib.Dec.{eqb, ltb}
-use lib.ListN.{length, take, drop, getD, set, length-append, length-take, length-drop, length-map}
+use lib.ListN.{length, take, drop, getD, set, length-append, length-take, length-drop}
 use lib.Seq.{take-at, drop-at, take-add, drop-drop, length-take-le}
 use borrow.Author.Tests.{lt-ltb, not-true}
 use Rattle.octets.specs.Octets.{groups}
-use Rattle.octets.proofs.Groups.{length-groups, joined-back, group-rest}
-use Rattle.model.specs.Words.{if_then_else_, all}
-use Rattle.model.specs.Numbers as n
+use Rattle.octets.proofs.Groups.{joined-back, group-rest}
+use Rattle.model.specs.Words.{if_then_else_}
 use Rattle.model.specs.Numbers.{NONE}
-use Rattle.model.specs.Site.{records, isAt}
-use Rattle.model.specs.State.{Pair, Panel, paired, panel, sites, stateOf, findBy, find, seek, store, write, zoneBytes, pointBytes, credentialBytes}
+use Rattle.model.specs.State.{Pair, paired, panel, stateOf, find, seek, store, write, zoneBytes, pointBytes, credentialBytes}
 use Rattle.model.specs.Step.{apply}
-use Rattle.model.proofs.Laws.{and-left, and-right}
-use Rattle.model.proofs.Flat.{sites-panel, panel-stateOf, length-stateOf}
+use Rattle.model.proofs.Laws.{and-right}
+use Rattle.model.proofs.Flat.{sites-panel}
 use Rattle.model.proofs.RoundTrip.{length-zone, length-point, length-credential}
-use Rattle.site.specs.Place.{placeFrom, placeOf}
+use Rattle.site.specs.Place.{placeOf}
+use Rattle.site.proofs.Places.{place-found}
+use Rattle.site.proofs.Panels as Panels
+use Rattle.site.proofs.Records.{length-records}
 use Rattle.journal.specs.Places.{partAt, seekPlace, storedAt, stored, written, applied, Placed}
 use Rattle.site.specs.declared.Place.{Place}
 use Rattle.site.specs.declared.Place.the-variants.{At, Nothing}
 use Rattle.journal.specs.declared.Places.{Places}
 use Rattle.model.specs.declared.Outcome.{Outcome}
-
--- ── a panel, and the place of a record among its site records
-
--- What a place says of a panel, its first record counted as `from`: the record there is what is found and what is written, or nothing is.
-unfoldable pub Standing : (k i from : ℕ) → Panel → Place → Type 0
-Standing k i from ps (At j) =
-    (from ≤ j) × (j - from < length ps) × (findBy (isAt k i) ps ≡ getD ps (j - from) ([], []))
-    × ((b : List ℕ) → store k i b ps ≡ set ps (j - from) (getD ps (j - from) ([], []) .0, b))
-Standing k i from ps Nothing = (findBy (isAt k i) ps ≡ ([], [])) × ((b : List ℕ) → store k i b ps ≡ ps)
-
-later : (k i from : ℕ) (x : Pair) (ps : Panel) (p : Place) → isAt k i (x .0) ≡ false → Standing k i (suc from) ps p → Standing k i from (x ∷ ps) p
-unfolding Standing store
-later k i from x ps (At j) e h =
-    let d : j - from ≡ suc (j - suc from) = omega (arith, h .0) in
-    (omega (arith, h .0), omega (arith, h .0, h .1), rw (d, e) (h .2), λ b. rw (d, e) (ap (λ qs. x ∷ qs) (h .3 b)))
-later k i from x ps Nothing e h = (rw e (h .0), λ b. rw e (ap (λ qs. x ∷ qs) (h .1 b)))
-
-pub stands : (k i from : ℕ) (ps : Panel) → Standing k i from ps (placeFrom (isAt k i) from (sites ps))
-unfolding Standing placeFrom store
-stands k i from [] = (refl, λ b. refl)
-stands k i from (x ∷ ps) = go (isAt k i (x .0)) refl (stands k i (suc from) ps)
-  where
-    go : (c : Bool) → isAt k i (x .0) ≡ c → Standing k i (suc from) ps (placeFrom (isAt k i) (suc from) (sites ps)) →
-        Standing k i from (x ∷ ps) (if c then At from else placeFrom (isAt k i) (suc from) (sites ps))
-    go true e h = let d : from - from ≡ 0 = omega arith in (omega arith, omega arith, rw (d, e), λ b. rw (d, e))
-    go false e h = later k i from x ps (placeFrom (isAt k i) (suc from) (sites ps)) e h
 
 -- ── the j-th record of the panel of site and state
 
@@ -91,31 +65,17 @@ module _ (site state : List ℕ) (whole-site : length site % 32 ≡ 0) (same-len
   records-at j h =
       rw same-length (getD-paired (length site / 32) j site state h)
 
-  length-panel : length (panel site state) ≡ length site / 32
-  unfolding records
-  length-panel = sym (length-map (panel site state) (λ (x : Pair). x .0)) ∙ ap length (sites-panel site state) ∙ length-groups 32 (length site / 32) site
-
-  standing-here : (k i : ℕ) → Standing k i 0 (panel site state) (placeOf k i site)
-  unfolding placeOf
-  standing-here k i = rw (sites-panel site state) at (stands k i 0 (panel site state))
-
-  -- The place of a record, from the first.
-  placed : (k i j : ℕ) → Standing k i 0 (panel site state) (At j) →
-      (j < length site / 32) × (findBy (isAt k i) (panel site state) ≡ getD (panel site state) j ([], []))
-      × ((b : List ℕ) → store k i b (panel site state) ≡ set (panel site state) j (getD (panel site state) j ([], []) .0, b))
-  unfolding Standing
-  placed k i j h =
-      let z : j - 0 ≡ j = omega arith in
-      (omega (arith, h .1, length-panel), rw z at (h .2), λ b. rw z at (h .3 b))
+  -- The place of a record is one of the records'.
+  in-site : (k i j : ℕ) → placeOf k i site ≡ At j → j < length site / 32
+  in-site k i j e = rw (length-records site) at (place-found k i j site e .0)
 
   -- What is found is at its place, in the site and in the state.
   pub find-at : (k i : ℕ) → find k i (panel site state) ≡ (partAt (placeOf k i site) site, partAt (placeOf k i site) state)
-  unfolding find Standing
-  find-at k i = go (placeOf k i site) (standing-here k i)
+  find-at k i = go (placeOf k i site) refl
     where
-      go : (p : Place) → Standing k i 0 (panel site state) p → findBy (isAt k i) (panel site state) ≡ (partAt p site, partAt p state)
-      go (At j) h = let q = placed k i j h in q .1 ∙ records-at j (q .0)
-      go Nothing h = h .0
+      go : (p : Place) → placeOf k i site ≡ p → find k i (panel site state) ≡ (partAt p site, partAt p state)
+      go (At j) e = Panels.find-at k i site (panel site state) (sites-panel site state) j e ∙ records-at j (in-site k i j e)
+      go Nothing e = Panels.find-nowhere k i site (panel site state) (sites-panel site state) e
 
   pub seek-at : (k i : ℕ) → seek k i (panel site state) ≡ (partAt (seekPlace k i site) site, partAt (seekPlace k i site) state)
   unfolding seek seekPlace
@@ -125,18 +85,23 @@ module _ (site state : List ℕ) (whole-site : length site % 32 ≡ 0) (same-len
       go true = refl
       go false = find-at k i
 
+  panel-stored : (j : ℕ) (b : List ℕ) → j < length site / 32 → length b ≡ 32 →
+      panel site (storedAt j b state) ≡ set (panel site state) j (getD (panel site state) j ([], []) .0, b)
+  unfolding panel
+  panel-stored j b h l = paired-stored (length site / 32) j site state b h (omega arith) l
+
   -- A record of 32 bytes stored at its place is stored in the panel; the state keeps its length.
-  store-at : (k i : ℕ) (b : List ℕ) → length b ≡ 32 → (p : Place) → Standing k i 0 (panel site state) p →
+  store-at : (k i : ℕ) (b : List ℕ) → length b ≡ 32 → (p : Place) → placeOf k i site ≡ p →
       (panel site (stored p b state) ≡ store k i b (panel site state)) × (length (stored p b state) ≡ length site)
-  unfolding Standing
-  store-at k i b l (At j) h =
-      let q = placed k i j h in
-      let t : ltb j (length state / 32) ≡ true = lt-ltb j (length state / 32) (omega (arith, q .0)) in
+  store-at k i b l (At j) e =
+      let h = in-site k i j e in
+      let t : ltb j (length state / 32) ≡ true = lt-ltb j (length state / 32) (omega arith) in
       rw t (
-        unfold panel in (paired-stored (length site / 32) j site state b (q .0) (omega arith) l ∙ sym (q .2 b)),
-        unfold storedAt in (simp (length-append, length-take, length-drop) (omega (arith, q .0, l))),
+        panel-stored j b h l
+            ∙ sym (Panels.store-at k i site (panel site state) (sites-panel site state) b j e),
+        unfold storedAt in (simp (length-append, length-take, length-drop) (omega (arith, h, l))),
       )
-  store-at k i b l Nothing h = (sym (h .1 b), same-length)
+  store-at k i b l Nothing e = (sym (Panels.store-nowhere k i site (panel site state) (sites-panel site state) b e), same-length)
 
   pub write-at : (on : Bool) (k i : ℕ) (b : List ℕ) (p : Place) → length b ≡ 32 → (eqb i NONE ≡ false → p ≡ placeOf k i site) →
       (panel site (written on i p b state) ≡ write on k i b (panel site state)) × (length (written on i p b state) ≡ length site)
@@ -146,7 +111,7 @@ module _ (site state : List ℕ) (whole-site : length site % 32 ≡ 0) (same-len
       go : (c : Bool) → on && not (eqb i NONE) ≡ c →
           (panel site (if c then stored p b state else state) ≡ (if c then store k i b (panel site state) else panel site state)) × (length (if c then stored p b state else state) ≡ length site)
       go true h =
-          rw (e (not-true (eqb i NONE) (and-right on (not (eqb i NONE)) h))) (store-at k i b l (placeOf k i site) (standing-here k i))
+          rw (e (not-true (eqb i NONE) (and-right on (not (eqb i NONE)) h))) (store-at k i b l (placeOf k i site) refl)
       go false h = (refl, same-length)
 
 -- ── an outcome

@@ -1,22 +1,21 @@
 -- What decides an entry on bytes is the outcome of the entry at the panel.
-use Prim.Native.Nat.{ℕ, _/_, _%_, _*_, _<_}
+use Prim.Native.Nat.{ℕ, _/_, _%_, _<_}
 use native.Mathlib.Omega.{arith}
 use mathlib.Core.Path.{_≡_, refl, sym, _∙_, ap}
 use mathlib.Core.List.{List, [], _∷_}
-use mathlib.Core.Bool.{Bool, true, false, not}
-use lib.Dec.{eqb, ltb}
-use lib.ListN.{length, getD}
+use mathlib.Core.Bool.{Bool, true, false}
+use lib.Dec.{ltb}
+use lib.ListN.{length}
 use Rattle.octets.proofs.Groups.{length-groups, length-group}
 use Rattle.model.specs.Words.{if_then_else_, missing}
 use Rattle.model.specs.Numbers as n
-use Rattle.model.specs.Numbers.{NONE}
 use Rattle.model.specs.Site.{records, pointOf}
-use Rattle.model.specs.State.{Panel, panel, stateOf, find, count, pointStateOf, credentialStateOf}
+use Rattle.model.specs.State.{panel, stateOf, find, count, pointStateOf, credentialStateOf}
 use Rattle.model.specs.Entry.{operationOf, objectKind, inForm}
 use Rattle.model.specs.Checks.{verdict, eventOf}
 use Rattle.model.specs.Effects.{outcomeOf}
-use Rattle.model.specs.Step.{noPoint, noCredential, noCount, noAnswer, unchanged, refuse, zoneTo, viewOf, rulesAt, factorOutcome, countOutcome, adjusted, adjustOutcome, disableOutcome, serviceOutcome, workedOutcome, outcomeAs, entryOutcome, apply}
-use Rattle.site.specs.Place.{placeFrom, placeOf}
+use Rattle.model.specs.Step.{noPoint, noCredential, noCount, noAnswer, unchanged, refuse, zoneTo, factorOutcome, countOutcome, adjusted, adjustOutcome, disableOutcome, serviceOutcome, workedOutcome, outcomeAs, entryOutcome, apply}
+use Rattle.site.specs.Place.{placeOf}
 use Rattle.site.proofs.Places.{place-found}
 use Rattle.journal.specs.Places.{partAt, applied, Placed}
 use Rattle.journal.specs.Gather.{toAt, countTo, gathered}
@@ -32,8 +31,7 @@ use Rattle.model.specs.declared.Entry.{Entry}
 use Rattle.model.specs.declared.Outcome.{Outcome}
 use Rattle.model.specs.declared.PointState.{PointState}
 use Rattle.model.specs.declared.Verdict.{Verdict}
-use Rattle.model.specs.declared.Operation.{Operation}
-use Rattle.model.specs.declared.Operation.the-variants.{Factor, SetCount, AdjustCount, SetDisable, SetService, Unknown}
+use Rattle.model.specs.declared.Operation.the-variants.{SetCount, AdjustCount, SetDisable, SetService}
 
 -- ── outcomes at the place of their object
 

@@ -1,10 +1,9 @@
 -- The loop over the entries of a journal: what is done after k of them.
-use Prim.Native.Nat.{ℕ, zero, suc, _+_, _-_, _*_, _/_, _%_, _≤_, _<_}
+use Prim.Native.Nat.{ℕ, suc, _+_, _-_, _*_, _/_, _%_, _≤_, _<_}
 use native.Mathlib.Omega.{arith}
-use native.Mathlib.Numerals.{add-one}
 use mathlib.Core.Path.{_≡_, refl, sym, _∙_, ap, ap₂}
 use mathlib.Core.List.{List, [], _∷_, _++_, append-assoc, append-nil, map, map-append, flatten}
-use lib.ListN.{length, take, drop, getD, length-append, length-drop, length-map, List·getD-map, drop-of-length-le}
+use lib.ListN.{length, take, drop, getD, length-map, List·getD-map, drop-of-length-le}
 use lib.Seq.{take-all, take-suc, take-at, drop-at, drop-drop, length-take-le}
 use Rattle.octets.specs.Octets.{groups}
 use Rattle.octets.proofs.Groups.{length-groups, group-at, group-rest}

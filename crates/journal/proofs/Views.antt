@@ -1,7 +1,7 @@
 -- What is gathered at a point's place is the view of the panel there, and the places are those of the records that its outcome names.
 use Prim.Native.Nat.{ℕ, _%_}
-use mathlib.Core.Path.{_≡_, refl, sym, _∙_, ap}
-use mathlib.Core.List.{List, []}
+use mathlib.Core.Path.{_≡_, refl}
+use mathlib.Core.List.{List}
 use mathlib.Core.Bool.{Bool, true, false, not, _&&_, _||_}
 use lib.Dec.{eqb}
 use lib.ListN.{length}
@@ -9,7 +9,7 @@ use Rattle.model.specs.Words.{if_then_else_, missing}
 use Rattle.model.specs.Numbers as n
 use Rattle.model.specs.Numbers.{NONE}
 use Rattle.model.specs.Site.{records, zoneOf, pointOf, credentialOf, factorDisable}
-use Rattle.model.specs.State.{Pair, Panel, panel, sites, find, seek, count, pointStateOf, credentialStateOf}
+use Rattle.model.specs.State.{panel, count, pointStateOf, credentialStateOf}
 use Rattle.model.specs.Checks.{waiting, verdict, factorFor, credentialRead}
 use Rattle.model.specs.Effects.{named, outcomeOf}
 use Rattle.model.specs.Step.{factorRead, numberRead, zoneTo, zoneFrom, credentialAt, viewOf, rulesAt}
@@ -17,9 +17,8 @@ use Rattle.model.proofs.Flat.{sites-panel}
 use Rattle.site.specs.Place.{placeOf}
 use Rattle.journal.specs.Places.{partAt, seekPlace, Placed}
 use Rattle.journal.specs.Gather.{waitingAt, factorAt, numberAt, toAt, fromAt, heldAt, gathered}
-use Rattle.journal.proofs.At.{find-at, seek-at}
+use Rattle.journal.proofs.At.{seek-at}
 use Rattle.site.specs.declared.Place.{Place}
-use Rattle.site.specs.declared.Place.the-variants.{At, Nothing}
 use Rattle.model.specs.declared.Entry.{Entry}
 use Rattle.model.specs.declared.View.{View}
 use Rattle.model.specs.declared.Zone.{Zone}
@@ -27,7 +26,6 @@ use Rattle.model.specs.declared.Point.{Point}
 use Rattle.model.specs.declared.PointState.{PointState}
 use Rattle.model.specs.declared.Credential.{Credential}
 use Rattle.model.specs.declared.CredentialState.{CredentialState}
-use Rattle.journal.specs.declared.Gathered.{Gathered}
 
 module _ (site state : List ℕ) (whole-site : length site % 32 ≡ 0) (same-length : length state ≡ length site) where
   -- The view of the panel is what is gathered at the point's place.

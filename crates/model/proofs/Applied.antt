@@ -2,16 +2,16 @@
 use Prim.Native.Nat.{ℕ}
 use mathlib.Core.Path.{_≡_, refl}
 use mathlib.Core.List.{List, [], _∷_, _++_, map}
-use mathlib.Core.Bool.{Bool, true, false}
+use mathlib.Core.Bool.{true}
 use lib.Dec.{eqb}
-use lib.IntN.{ℤ, pos, negsuc}
+use lib.IntN.{pos, negsuc}
 use Rattle.model.specs.Numbers.{NONE, NEVER, UNLIMITED}
 use Rattle.model.specs.State.{wellFormed}
 use Rattle.model.specs.Calls.{number}
 use Rattle.model.specs.Lists.{History, runOn, returns, begun, ended, answersIn, firstOf, refusalIn}
-use Rattle.model.specs.Tally.{smaller, move, setTo, signed, passed, tallied, tally, tallyOf, standing, countOf, Tally}
+use Rattle.model.specs.Tally.{smaller, move, setTo, signed, passed, tallied, tally, tallyOf, standing, countOf}
 use Rattle.model.proofs.Open.{definitions}
-use Rattle.model.proofs.Build.{zone, point, lockingPoint, credential, absentCredential, factor, card, read, adjust, lock, cut, runOf, events, run, history, examples}
+use Rattle.model.proofs.Build.{zone, point, lockingPoint, credential, absentCredential, card, read, adjust, lock, cut, runOf, events, run, history, examples}
 use Rattle.model.proofs.Parts.{part, nothing, isolationTests, parts}
 
 -- One name that opens the definitions of Tally.

@@ -3,9 +3,8 @@ use Prim.Native.Nat.{ℕ}
 use mathlib.Core.Path.{_≡_, refl}
 use mathlib.Core.List.{List, [], _∷_, map, flatten}
 use Rattle.octets.specs.Octets.{field}
-use Rattle.model.specs.Numbers as n
 use Rattle.model.specs.Numbers.{NONE, NEVER, UNLIMITED}
-use Rattle.model.specs.Calls.{RunResult, number}
+use Rattle.model.specs.Calls.{number}
 use Rattle.model.specs.Lists.{answersIn}
 use Rattle.model.specs.Print.{printJournal}
 use Rattle.model.proofs.Open.{definitions}

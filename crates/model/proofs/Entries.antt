@@ -2,11 +2,11 @@
 use Prim.Native.Nat.{ℕ, zero, suc, _+_, _*_, _/_, _%_, _≤_, _<_}
 use native.Mathlib.Omega.{arith}
 use native.Mathlib.Nat.{zero-add, suc-add, suc-mul, add-comm}
-use mathlib.Core.Path.{_≡_, refl, sym, _∙_, ap, ap₂}
-use mathlib.Core.List.{List, [], _∷_, map, flatten}
+use mathlib.Core.Path.{_≡_, refl, sym, _∙_, ap}
+use mathlib.Core.List.{List, [], _∷_, map}
 use mathlib.Core.Bool.{Bool, true, false, not, _||_}
 use lib.Dec.{ltb, eqb}
-use lib.ListN.{length, take, drop, getD, length-take, length-map, List·getD-map}
+use lib.ListN.{length, take, drop, getD, length-map, List·getD-map}
 use lib.Seq.{length-take-le, take-take, take-nil}
 use borrow.Author.Tests.{eqb-true, eq-eqb, ltb-false, le-ltb, not-false}
 use Rattle.octets.specs.Octets.{groups}
@@ -18,9 +18,8 @@ use Rattle.model.specs.Step.{apply, entryOutcome, after, answers}
 use Rattle.model.specs.Calls.{isWorked, freshReturned, runReturned, runJournal}
 use Rattle.model.specs.Lists.{Run, runOn, answersIn, firstOf}
 use Rattle.model.proofs.Laws.{or-left, or-right}
-use Rattle.model.proofs.Runs.{passed-check, worked-through, answers-back, length-answers}
+use Rattle.model.proofs.Runs.{passed-check, worked-through, answers-back}
 use Rattle.model.specs.declared.Entry.{Entry}
-use Rattle.model.specs.declared.Answer.{Answer}
 use Rattle.model.specs.declared.Returned.{Returned}
 use Rattle.model.specs.declared.Returned.the-variants.{WorkedThrough, StateForm, JournalLength, AnswersLength}
 

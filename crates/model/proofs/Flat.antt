@@ -1,15 +1,14 @@
 -- Site and state as bytes, and as a panel of records: each gives the other back.
-use Prim.Native.Nat.{ℕ, zero, suc, _+_, _*_, _/_, _%_, _≤_, _<_}
+use Prim.Native.Nat.{ℕ, zero, suc, _+_, _*_, _/_, _%_}
 use native.Mathlib.Omega.{arith}
-use native.Mathlib.Nat.{mul-div-cancel-left}
 use mathlib.Core.Path.{_≡_, refl, sym, _∙_, ap}
-use mathlib.Core.List.{List, [], _∷_, _++_, map, map-map, flatten}
+use mathlib.Core.List.{List, [], _∷_, map, map-map, flatten}
 use mathlib.Core.Bool.{Bool, true, false, _&&_}
 use lib.Dec.{eqb}
 use lib.ListN.{length, take, drop, length-append, length-map, length-drop}
 use lib.Seq.{take-at, drop-at, length-take-le}
-use borrow.Author.Tests.{eqb-true, eq-eqb}
-use Rattle.octets.specs.Octets.{groups, digits}
+use borrow.Author.Tests.{eqb-true}
+use Rattle.octets.specs.Octets.{groups}
 use Rattle.octets.proofs.Groups.{length-groups, joined-back}
 use Rattle.model.specs.Words.{if_then_else_, all, zeros}
 use Rattle.model.specs.Site.{kind, records}

@@ -1,5 +1,5 @@
 -- A grant is earned: what the order of checks passed where it comes to event 1.
-use Prim.Native.Nat.{ℕ, zero, suc, _≤_, _<_}
+use Prim.Native.Nat.{ℕ, _≤_, _<_}
 use native.Mathlib.Omega.{arith}
 use mathlib.Core.Path.{_≡_, refl, sym, _∙_, ap}
 use mathlib.Core.List.{List, [], _∷_, map}
@@ -12,7 +12,7 @@ use Rattle.octets.proofs.Laws.{same-refl}
 use Rattle.model.specs.Words.{if_then_else_, any, all, missing}
 use Rattle.model.specs.Numbers as n
 use Rattle.model.specs.Numbers.{NONE}
-use Rattle.model.specs.Site.{records, kind, instance, role, factorDisable, pointOf, isAt, findIn}
+use Rattle.model.specs.Site.{records, kind, instance, role, pointOf, isAt, findIn}
 use Rattle.model.specs.State.{Pair, Panel, sites, find, pointStateOf, count, recordWell, panel, wellFormed}
 use Rattle.model.specs.Entry.{entryOf, entries, operationOf, objectKind, inForm}
 use Rattle.model.specs.Checks.{stillLocked, waiting, overdue, presents, identifying, confirming, factorFor, credentialRead, disabledFactor, firstOfTwo, authenticationOf, authentication, inactive, validityOf, validity, passbackViolated, atLowerLimit, atUpperLimit, authorizationOf, authorization, passage, eventOf}
@@ -33,9 +33,6 @@ use Rattle.model.specs.declared.View.{View}
 use Rattle.model.specs.declared.Verdict.{Verdict}
 use Rattle.model.specs.declared.Entry.{Entry}
 use Rattle.model.specs.declared.Outcome.{Outcome}
-use Rattle.model.specs.declared.Authentication.{Authentication}
-use Rattle.model.specs.declared.Validity.{Validity}
-use Rattle.model.specs.declared.Authorization.{Authorization}
 use Rattle.model.specs.declared.Operation.{Operation}
 use Rattle.model.specs.declared.Operation.the-variants.{Factor, SetCount, AdjustCount, SetDisable, SetService, Unknown}
 

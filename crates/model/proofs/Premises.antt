@@ -1,21 +1,14 @@
 -- Why `Isolation` has its premises: for each of them a pair of lists from fresh in which all the others hold and the conclusion fails.
-use Prim.Native.Nat.{ℕ, _*_, _/_}
+use Prim.Native.Nat.{ℕ}
 use mathlib.Core.Path.{_≡_, refl}
-use mathlib.Core.List.{List, [], _∷_, _++_, flatten}
-use mathlib.Core.Bool.{Bool, true, false, _&&_}
+use mathlib.Core.List.{List, [], _∷_, _++_}
+use mathlib.Core.Bool.{true, false}
 use lib.Dec.{eqb}
-use lib.ListN.{length}
-use Rattle.octets.specs.Octets.{same}
-use Rattle.model.specs.Words.{all, zeros}
-use Rattle.model.specs.Numbers.{NONE, NEVER, UNLIMITED, entry-size, answer-size}
-use Rattle.model.specs.Site.{records}
-use Rattle.model.specs.Calls.{freshState}
-use Rattle.model.specs.Lists.{History, worked}
-use Rattle.model.specs.Part.{Part, inside, readInside, partRecords, partEntries, partAnswers, partState}
+use Rattle.model.specs.Numbers.{NONE, NEVER, UNLIMITED}
+use Rattle.model.specs.Lists.{History}
 use Rattle.model.proofs.Open.{definitions}
 use Rattle.model.proofs.Build.{zone, point, credential, card, everyRule, read, history, examples}
 use Rattle.model.proofs.Parts.{part, nothing, isolationTests, parts}
-use Rattle.model.specs.declared.Returned.the-variants.{WorkedThrough}
 
 -- ── the border
 

@@ -1,21 +1,19 @@
 -- A list of runs from fresh is one run of all its worked entries over the fresh panel.
-use Prim.Native.Nat.{ℕ, suc, _*_, _/_, _%_}
+use Prim.Native.Nat.{ℕ, suc, _/_, _%_}
 use native.Mathlib.Omega.{arith}
 use mathlib.Core.Path.{_≡_, refl, sym, _∙_, ap, ap₂}
 use mathlib.Core.List.{List, [], _∷_, _++_, map, map-append, flatten}
-use mathlib.Core.Bool.{Bool, true, false, not, _&&_, _||_}
+use mathlib.Core.Bool.{Bool, true, false, not, _||_}
 use lib.Dec.{ltb, eqb}
 use lib.ListN.{length, length-map}
 use borrow.Author.Tests.{eqb-true, not-false}
-use Rattle.octets.specs.Octets.{groups}
-use Rattle.octets.proofs.Groups.{length-groups}
 use Rattle.model.specs.Words.{if_then_else_, all}
 use Rattle.model.specs.Site.{records}
 use Rattle.model.specs.Accept.{inRange, twice, namesExist}
-use Rattle.model.specs.State.{Panel, panel, sites, stateOf, fresh}
+use Rattle.model.specs.State.{Panel, panel, stateOf, fresh}
 use Rattle.model.specs.Entry.{entryOf, entries, answerBytes}
 use Rattle.model.specs.Step.{apply, entryOutcome, after, answers}
-use Rattle.model.specs.Calls.{number, isWorked, checkSite, freshReturned, freshState, runReturned, runJournal}
+use Rattle.model.specs.Calls.{isWorked, checkSite, freshReturned, freshState, runReturned, runJournal}
 use Rattle.model.specs.Lists.{Run, runOn, stateAfter, Worked, withAnswers, answersIn, workedBy, workedIn, History, begun, ended, worked}
 use Rattle.model.proofs.Laws.{or-left}
 use Rattle.model.proofs.RoundTrip.{length-answer}

@@ -1,8 +1,8 @@
 -- What is turned back or refused changes nothing: the theorems `turned-back` and `refused`.
-use Prim.Native.Nat.{ℕ, suc, _+_, _<_, _/_}
+use Prim.Native.Nat.{ℕ, suc, _<_, _/_}
 use native.Mathlib.Omega.{arith}
 use mathlib.Core.Path.{_≡_, refl, sym, _∙_, ap}
-use mathlib.Core.List.{List, [], _∷_, _++_, map}
+use mathlib.Core.List.{List, [], _∷_, map}
 use mathlib.Core.Bool.{Bool, true, false, not}
 use lib.Dec.{ltb, eqb}
 use lib.ListN.{length, take, getD, length-map, List·getD-map}
@@ -13,8 +13,8 @@ use Rattle.model.specs.State.{Pair, Panel, panel, stateOf, find, write}
 use Rattle.model.specs.Entry.{entryOf, entries, answerBytes, operationOf, objectKind, inForm}
 use Rattle.model.specs.Effects.{answerTo, outcomeOf}
 use Rattle.model.specs.Step.{noPoint, noCredential, noCount, noAnswer, unchanged, refuse, factorOutcome, countOutcome, adjusted, adjustOutcome, disableOutcome, serviceOutcome, workedOutcome, outcomeAs, entryOutcome, apply, after}
-use Rattle.model.specs.Calls.{isWorked, freshState, runJournal}
-use Rattle.model.specs.Lists.{Run, runOn, answersIn, firstOf, refusalIn}
+use Rattle.model.specs.Calls.{freshState, runJournal}
+use Rattle.model.specs.Lists.{runOn, refusalIn}
 use Rattle.model.specs.Demands.{TurnedBack, Refused}
 use Rattle.model.proofs.RoundTrip.{refusal-back}
 use Rattle.model.proofs.Runs.{after-append}

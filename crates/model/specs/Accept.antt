@@ -5,7 +5,7 @@ use mathlib.Core.Bool.{Bool, true, false, not, _&&_, _||_}
 use lib.Dec.{ltb, leb, eqb}
 use lib.ListN.{take, drop}
 use Rattle.octets.specs.Octets.{field, same}
-use Rattle.model.specs.Words.{if_then_else_, any, all, zeros, within, missing}
+use Rattle.model.specs.Words.{if_then_else_, any, zeros, within, missing}
 use Rattle.model.specs.Numbers.{NONE, minutes-of-day, access-zone, access-point, access-rule, access-credential, authentication-factor, role-identifying, largest-disable, largest-threat}
 use Rattle.model.specs.Site.{kind, instance, pointOf, everywhere, locationKind, weekdays, location, fromMinute, toMinute, role, factorDisable, format, value, isAt, findIn}
 

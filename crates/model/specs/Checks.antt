@@ -3,7 +3,7 @@ use Prim.Native.Nat.{ℕ, _*_, _-_, _/_, _%_}
 use mathlib.Core.List.{List}
 use mathlib.Core.Bool.{Bool, not, _&&_, _||_}
 use lib.Dec.{ltb, leb, eqb}
-use Rattle.octets.specs.Octets.{field, same}
+use Rattle.octets.specs.Octets.{same}
 use Rattle.model.specs.Words.{if_then_else_, any, bit, missing}
 use Rattle.model.specs.Numbers as n
 use Rattle.model.specs.Numbers.{NONE, NEVER, UNLIMITED}

@@ -15,7 +15,7 @@ use Rattle.model.specs.State.{panel, wellFormed}
 use Rattle.model.specs.Entry.{entryOf, entries, operationOf, answerBytes}
 use Rattle.model.specs.Step.{noAnswer}
 use Rattle.model.specs.Calls.{number, isWorked, freshState}
-use Rattle.model.specs.Lists.{Run, runOn, stateAfter, returns, answersIn, eventIn, refusalIn, credentialIn, History, begun, ended, firstOf}
+use Rattle.model.specs.Lists.{Run, runOn, returns, answersIn, eventIn, refusalIn, credentialIn, History, begun, ended, firstOf}
 use Rattle.model.specs.Tally.{standing, tallyOf, countOf}
 use Rattle.model.specs.Part.{Part, SelfContained, partRecords, partEntries, partAnswers, partState}
 use Rattle.model.specs.Earned.{Earned}

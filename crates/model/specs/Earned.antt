@@ -2,13 +2,13 @@
 use Prim.Native.Nat.{ℕ, _≤_, _<_}
 use mathlib.Core.Path.{_≡_}
 use mathlib.Core.List.{List}
-use mathlib.Core.Bool.{Bool, true, false, _&&_}
+use mathlib.Core.Bool.{true, false, _&&_}
 use lib.Dec.{eqb}
 use Rattle.octets.specs.Octets.{same}
 use Rattle.model.specs.Words.{if_then_else_, any}
 use Rattle.model.specs.Numbers as n
 use Rattle.model.specs.Site.{instance, factorDisable}
-use Rattle.model.specs.State.{Pair, Panel, sites, find}
+use Rattle.model.specs.State.{Panel, sites, find}
 use Rattle.model.specs.Checks.{stillLocked, waiting, overdue, identifying, confirming, inactive, passbackViolated, atLowerLimit, atUpperLimit}
 use Rattle.model.specs.Step.{factorRead, viewOf, rulesAt}
 use Rattle.model.specs.declared.View.{View}

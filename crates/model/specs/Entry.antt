@@ -1,6 +1,6 @@
 -- "Entries, 24 bytes; answers, 16 bytes": their fields, the operations, and the forms that refusal 7 asks.
 use Prim.Native.Nat.{ℕ, _/_}
-use mathlib.Core.List.{List, _++_, map}
+use mathlib.Core.List.{List, _++_}
 use mathlib.Core.Bool.{Bool, false, not, _&&_}
 use lib.Dec.{leb, ltb, eqb}
 use lib.ListN.{length, take, drop}

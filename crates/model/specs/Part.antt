@@ -8,7 +8,7 @@ use Rattle.model.specs.Words.{if_then_else_, keep, all, missing}
 use Rattle.model.specs.Numbers as n
 use Rattle.model.specs.Numbers.{NONE}
 use Rattle.model.specs.Site.{records, kind, instance, pointOf, credentialOf, findIn}
-use Rattle.model.specs.State.{Pair, Panel, panel}
+use Rattle.model.specs.State.{Pair, panel}
 use Rattle.model.specs.Entry.{entryOf, operationOf, objectKind}
 use Rattle.model.specs.Checks.{identifying}
 use Rattle.model.specs.Lists.{Worked, refusalIn, History, ended, worked}

@@ -2,11 +2,10 @@
 use Prim.Native.Nat.{ℕ, _*_, _/_, _%_}
 use mathlib.Core.Path.{_≡_, refl}
 use mathlib.Core.List.{List}
-use mathlib.Core.Bool.{Bool, true, false, not}
+use mathlib.Core.Bool.{true, not}
 use lib.Dec.{eqb}
 use lib.ListN.{length}
 use borrow.Author.Tests.{eqb-true, not-false}
-use Rattle.model.specs.Words.{if_then_else_}
 use Rattle.model.specs.Calls.{isWorked, freshReturned, runReturned, runJournal}
 use Rattle.model.specs.Lists.{runOn}
 use Rattle.model.proofs.Runs.{worked-through, site-accepted, site-worked, passed-check}

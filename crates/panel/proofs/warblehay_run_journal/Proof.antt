@@ -1,4 +1,4 @@
-use mathlib.Core.Path.{_≡_, sym, _∙_, ap}
+use mathlib.Core.Path.{_∙_, ap}
 use Rattle.model.specs.Calls.{number}
 use borrow.Author.Needs.{needs}
 use Rattle.panel.proofs.warblehay_run_journal.Statement.{statement}

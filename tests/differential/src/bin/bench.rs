@@ -9,7 +9,7 @@ use reference::engine::{Engine, REFERENCE};
 use reference::generate::Random;
 use reference::numbers::{
     event, location_kind, point_flag, refusal, rule_flag, zone_flag, ANSWER_LENGTH, ENTRY_LENGTH,
-    EVERY_DAY, MINUTES_PER_DAY, MOST_JOURNAL_BYTES, MOST_SITE_BYTES, RECORD_LENGTH, VALUE_LENGTH,
+    EVERY_DAY, MOST_JOURNAL_BYTES, MOST_SITE_BYTES, RECORD_LENGTH, VALUE_LENGTH,
 };
 use std::hint::black_box;
 use std::time::{Duration, Instant};
@@ -74,7 +74,6 @@ fn rule(number: u32) -> Record {
         location_kind: location_kind::ZONE,
         location: number / RIGHTS % ZONES,
         days: EVERY_DAY,
-        to: MINUTES_PER_DAY,
         ..Rule::new(number % RIGHTS)
     }
     .record()
@@ -139,7 +138,7 @@ impl<'a> Bench<'a> {
         }
     }
 
-    fn time_check(&self) -> Duration {
+    fn time_check(&mut self) -> Duration {
         let start = Instant::now();
         let returned = (self.engine.check_site)(black_box(self.site));
         let time = start.elapsed();
@@ -169,17 +168,17 @@ impl<'a> Bench<'a> {
 
 /// The medians of both engines, timed in turn so that a busy machine slows both.
 fn medians<'a>(
-    mut one: Bench<'a>,
-    mut other: Bench<'a>,
+    proved: &mut Bench<'a>,
+    reference: &mut Bench<'a>,
     time: fn(&mut Bench<'a>) -> Duration,
-) -> (Duration, Duration) {
-    let (mut ones, mut others) = (Vec::new(), Vec::new());
+) -> [Duration; 2] {
+    let (mut ours, mut others) = (Vec::new(), Vec::new());
     for _ in 0..REPETITIONS {
-        ones.push(time(&mut one));
-        others.push(time(&mut other));
+        ours.push(time(proved));
+        others.push(time(reference));
     }
-    assert!(one.state == other.state && one.answers == other.answers);
-    (median(ones), median(others))
+    assert!(proved.state == reference.state && proved.answers == reference.answers);
+    [median(ours), median(others)]
 }
 
 fn median(mut times: Vec<Duration>) -> Duration {
@@ -187,37 +186,39 @@ fn median(mut times: Vec<Duration>) -> Duration {
     times[times.len() / 2]
 }
 
-fn print_row(shape: &Shape, call: &str, (proved, reference): (Duration, Duration)) {
-    let milliseconds = |time: Duration| time.as_secs_f64() * 1e3;
+fn print_row(shape: &Shape, call: &str, times: [Duration; 2]) {
+    let [proved, reference] = times.map(|time| time.as_secs_f64() * 1e3);
     println!(
-        "{:<18}{call:<13}{:>10.3} ms{:>10.3} ms{:>8.2}",
+        "{:<18}{call:<13}{proved:>10.3} ms{reference:>10.3} ms{:>8.2}",
         shape.name,
-        milliseconds(proved),
-        milliseconds(reference),
-        proved.as_secs_f64() / reference.as_secs_f64(),
+        proved / reference,
     );
 }
 
+fn bench(shape: &Shape) {
+    let (site, journal) = (site(shape), reads(shape));
+    assert_eq!(site.len(), MOST_SITE_BYTES);
+    assert_eq!(journal.len(), MOST_JOURNAL_BYTES);
+    let mut proved = Bench::new(PROVED, &site, &journal);
+    let mut reference = Bench::new(REFERENCE, &site, &journal);
+    let checks = medians(&mut proved, &mut reference, Bench::time_check);
+    print_row(shape, "check_site", checks);
+    let runs = medians(&mut proved, &mut reference, Bench::time_run);
+    print_row(shape, "run_journal", runs);
+    println!("{:<18}{} of {ENTRIES} reads granted", "", proved.granted());
+}
+
 fn main() {
-    println!("{RECORDS} records, {ENTRIES} entries; medians of {REPETITIONS} repetitions, the engines in turn.");
-    println!("Before each run_journal, outside its time, the state is reset to fresh and the answers to zero.");
+    println!(
+        "{RECORDS} records, {ENTRIES} entries; medians of {REPETITIONS}, the engines in turn."
+    );
+    println!(
+        "Buffers were reset before each run_journal, outside its time: the state to fresh, the"
+    );
+    println!("answers to zero. check_site writes no buffer. The ratio is proved to reference.");
     println!(
         "{:<18}{:<13}{:>13}{:>13}{:>8}",
         "site", "call", "proved", "reference", "ratio"
     );
-    for shape in &SHAPES {
-        let (site, journal) = (site(shape), reads(shape));
-        assert_eq!(
-            (site.len(), journal.len()),
-            (MOST_SITE_BYTES, MOST_JOURNAL_BYTES)
-        );
-        let bench = |engine| Bench::new(engine, &site, &journal);
-        let checks = medians(bench(PROVED), bench(REFERENCE), |bench| bench.time_check());
-        print_row(shape, "check_site", checks);
-        let runs = medians(bench(PROVED), bench(REFERENCE), Bench::time_run);
-        print_row(shape, "run_journal", runs);
-        let mut worked = bench(PROVED);
-        worked.time_run();
-        println!("{:<18}{} of {ENTRIES} granted", "", worked.granted());
-    }
+    SHAPES.iter().for_each(bench);
 }

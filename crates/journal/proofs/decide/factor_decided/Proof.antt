@@ -1,4 +1,4 @@
-use mathlib.Core.Path.{_≡_, refl, sym, _∙_, ap, ap₂}
+use mathlib.Core.Path.{sym, _∙_, ap, ap₂}
 use denote.Ref.{now}
 use Rattle.model.specs.Numbers as n
 use Rattle.model.specs.Site.{pointOf}

@@ -2,7 +2,7 @@ use mathlib.Core.Path.{refl}
 use borrow.Author.Tests.{eq-eqb, ne-eqb}
 use denote.Ref.{now}
 use Rattle.model.specs.Checks.{factorFor, identifying, confirming}
-use Rattle.journal.proofs.Lookups.{found-sized}
+use Rattle.site.proofs.Records.{found-whole}
 use borrow.Author.Needs.{needs}
 use Rattle.journal.proofs.gather.factor_for.Statement.{statement}
 use Rattle.journal.proofs.gather.factor_for.Tie as tie
@@ -12,14 +12,14 @@ find-identifying-requires c κs = search needs
 
 returns : tie.Need-returns
 unfolding factorFor
-returns c = let a = c .before .before .before .before .args in rw (c .find-identifying .ensures, eq-eqb _ _ (c .before .if1 .taken)) (refl, found-sized (identifying (a .e .argument) (a .e .value)) (now (a .site)))
+returns c = let a = c .before .before .before .before .args in rw (c .find-identifying .ensures, eq-eqb _ _ (c .before .if1 .taken)) (refl, found-whole (identifying (a .e .argument) (a .e .value)) (now (a .site)))
 
 find-confirming-requires : tie.Need-find-confirming-requires
 find-confirming-requires c κs = search needs
 
 returns-2 : tie.Need-returns-2
 unfolding factorFor
-returns-2 c = let a = c .before .before .before .before .args in rw (c .find-confirming .ensures, ne-eqb _ _ (c .before .if1 .left)) (refl, found-sized (confirming (a .waiting) (a .e .argument) (a .e .value)) (now (a .site)))
+returns-2 c = let a = c .before .before .before .before .args in rw (c .find-confirming .ensures, ne-eqb _ _ (c .before .if1 .left)) (refl, found-whole (confirming (a .waiting) (a .e .argument) (a .e .value)) (now (a .site)))
 
 pub factor-for-spec : {M : Type 1} → statement M
 factor-for-spec =

@@ -1,6 +1,4 @@
-use mathlib.Core.Path.{_≡_, sym, _∙_, ap}
-use denote.Ref.{now}
-use Rattle.journal.specs.Places.{partAt}
+use mathlib.Core.Path.{_≡_}
 use Rattle.site.specs.declared.Place.the-variants.{At, Nothing}
 use borrow.Author.Needs.{needs}
 use Rattle.journal.proofs.gather.part_at.Statement.{statement}

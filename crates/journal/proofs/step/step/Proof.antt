@@ -1,4 +1,4 @@
-use mathlib.Core.Path.{_≡_, _∙_, ap}
+use mathlib.Core.Path.{_∙_, ap}
 use denote.Ref.{now}
 use Rattle.journal.proofs.Decisions.{stepped}
 use Rattle.model.specs.declared.Outcome.{Outcome}
