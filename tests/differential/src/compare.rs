@@ -94,12 +94,17 @@ fn called(call: Call, case: &Case) -> (u8, Case) {
     (call(&mut after), after)
 }
 
-/// The case without the entries and records that its fault does not need.
+/// The case without the entries and records that its fault does not need. It tries again after
+/// each success, since an object can go only after what names it.
 fn smallest(case: &Case, has_fault: impl Fn(&Case) -> bool) -> Case {
     let entries = case.journal.len() / ENTRY_LENGTH;
     let records = case.site.len() / RECORD_LENGTH;
-    let case = cut(case.clone(), entries, without_entries, &has_fault);
-    cut(case, records, without_records, &has_fault)
+    let fewer = cut(case.clone(), entries, without_entries, &has_fault);
+    let fewer = cut(fewer, records, without_records, &has_fault);
+    if fewer == *case {
+        return fewer;
+    }
+    smallest(&fewer, has_fault)
 }
 
 /// Leaves out units that the fault does not need: large parts first, since a case may be long, and
