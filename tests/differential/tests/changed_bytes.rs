@@ -3,7 +3,7 @@
 
 use differential::{compare, settings, small};
 use reference::build::{journal, EntryFields, FORMAT};
-use reference::generate::{state, Case};
+use reference::generate::{state, Case, Random};
 use reference::numbers::{
     format, refusal, ANSWER_LENGTH, ENTRY_LENGTH, MOST_JOURNAL_BYTES, RECORD_LENGTH,
 };
@@ -34,11 +34,11 @@ fn case_of(site: &[u8], state: &[u8], journal: &[u8]) -> Case {
     }
 }
 
-/// The fresh state of a site and two odd ones.
+/// The fresh state of a site and two odd ones, the same in every run.
 fn states_of(site: &[u8]) -> Vec<Vec<u8>> {
     let mut fresh = case_of(site, site, &[]);
     assert_eq!(compare::fresh_state(&mut fresh), refusal::ACCEPTED);
-    let mut random = settings::random();
+    let mut random = Random::new(1);
     let odd = (0..2).map(|_| state(&mut random, NOW, site));
     std::iter::once(fresh.state).chain(odd).collect()
 }

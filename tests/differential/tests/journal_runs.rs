@@ -130,5 +130,4 @@ fn longest_journals() {
         refusal::ENTRY_COUNT,
     ];
     occurrences.assert_refusals(1, &in_answers);
-    occurrences.assert_events_and_marks(1);
 }

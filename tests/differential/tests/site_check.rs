@@ -63,16 +63,19 @@ fn random_and_damaged_sites() {
 fn large_sites() {
     let mut random = settings::random();
     let mut occurrences = Occurrences::default();
-    for round in 0..100 {
+    for round in 0..60 {
         let records = match round % 4 {
             0 => MOST_SITE_BYTES / RECORD_LENGTH,
             _ => 40 + random.below(1_000),
         };
         let base = base_time(&mut random);
-        let mut site = large_site(&mut random, base, records);
+        let site = large_site(&mut random, base, records);
         occurrences.count_call(compare::check_site(site.clone()));
-        damage(&mut random, &mut site, RECORD_LENGTH);
-        occurrences.count_call(compare::check_site(site));
+        for _ in 0..8 {
+            let mut damaged = site.clone();
+            damage(&mut random, &mut damaged, RECORD_LENGTH);
+            occurrences.count_call(compare::check_site(damaged));
+        }
     }
     settings::print("Site check, large sites", &occurrences);
     occurrences.assert_refusals(1, &SITE_REFUSALS);

@@ -138,25 +138,19 @@ impl<'a> Bench<'a> {
         }
     }
 
-    fn time_check(&mut self) -> Duration {
+    /// Times both calls once.
+    fn time(&mut self) -> Times {
         let start = Instant::now();
-        let returned = (self.engine.check_site)(black_box(self.site));
-        let time = start.elapsed();
-        assert_eq!(returned, refusal::ACCEPTED);
-        time
-    }
-
-    fn time_run(&mut self) -> Duration {
-        let returned = (self.engine.fresh_state)(self.site, &mut self.state);
-        assert_eq!(returned, refusal::ACCEPTED);
+        let checked = (self.engine.check_site)(black_box(self.site));
+        let check = start.elapsed();
+        let fresh = (self.engine.fresh_state)(self.site, &mut self.state);
         self.answers.fill(0);
-        let journal = black_box(self.journal);
+        let (run, journal) = (self.engine.run_journal, black_box(self.journal));
         let start = Instant::now();
-        let run = self.engine.run_journal;
-        let returned = run(self.site, &mut self.state, journal, &mut self.answers);
-        let time = start.elapsed();
-        assert_eq!(returned, refusal::ACCEPTED);
-        time
+        let worked = run(self.site, &mut self.state, journal, &mut self.answers);
+        let run = start.elapsed();
+        assert_eq!([checked, fresh, worked], [refusal::ACCEPTED; 3]);
+        Times { check, run }
     }
 
     fn granted(&self) -> usize {
@@ -166,33 +160,22 @@ impl<'a> Bench<'a> {
     }
 }
 
-/// The medians of both engines, timed in turn so that a busy machine slows both.
-fn medians<'a>(
-    proved: &mut Bench<'a>,
-    reference: &mut Bench<'a>,
-    time: fn(&mut Bench<'a>) -> Duration,
-) -> [Duration; 2] {
-    let (mut ours, mut others) = (Vec::new(), Vec::new());
-    for _ in 0..REPETITIONS {
-        ours.push(time(proved));
-        others.push(time(reference));
-    }
-    assert!(proved.state == reference.state && proved.answers == reference.answers);
-    [median(ours), median(others)]
+/// What one repetition took.
+struct Times {
+    check: Duration,
+    run: Duration,
 }
 
-fn median(mut times: Vec<Duration>) -> Duration {
-    times.sort();
-    times[times.len() / 2]
+fn median(times: &[Times], part: fn(&Times) -> Duration) -> Duration {
+    let mut parts: Vec<Duration> = times.iter().map(part).collect();
+    parts.sort();
+    parts[parts.len() / 2]
 }
 
-fn print_row(shape: &Shape, call: &str, times: [Duration; 2]) {
-    let [proved, reference] = times.map(|time| time.as_secs_f64() * 1e3);
-    println!(
-        "{:<18}{call:<13}{proved:>10.3} ms{reference:>10.3} ms{:>8.2}",
-        shape.name,
-        proved / reference,
-    );
+fn print_row(site: &str, call: &str, medians: [Duration; 2]) {
+    let [proved, reference] = medians.map(|time| time.as_secs_f64() * 1e3);
+    let ratio = proved / reference;
+    println!("{site:<18}{call:<16}{proved:>8.3} ms{reference:>9.3} ms{ratio:>8.2}");
 }
 
 fn bench(shape: &Shape) {
@@ -201,10 +184,22 @@ fn bench(shape: &Shape) {
     assert_eq!(journal.len(), MOST_JOURNAL_BYTES);
     let mut proved = Bench::new(PROVED, &site, &journal);
     let mut reference = Bench::new(REFERENCE, &site, &journal);
-    let checks = medians(&mut proved, &mut reference, Bench::time_check);
-    print_row(shape, "check_site", checks);
-    let runs = medians(&mut proved, &mut reference, Bench::time_run);
-    print_row(shape, "run_journal", runs);
+    // In turn, so that a busy machine slows both.
+    let times: Vec<_> = (0..REPETITIONS)
+        .map(|_| (proved.time(), reference.time()))
+        .collect();
+    assert!(proved.state == reference.state && proved.answers == reference.answers);
+    let (ours, others): (Vec<_>, Vec<_>) = times.into_iter().unzip();
+    let print = |call, part| {
+        let medians = [median(&ours, part), median(&others, part)];
+        print_row(shape.name, call, medians);
+    };
+    print("check_site", |times| times.check);
+    print("run_journal", |times| times.run);
+    // A run checks the site anew; the rest is what the state and the entries cost.
+    print("run less check", |times| {
+        times.run.saturating_sub(times.check)
+    });
     println!("{:<18}{} of {ENTRIES} reads granted", "", proved.granted());
 }
 
@@ -217,7 +212,7 @@ fn main() {
     );
     println!("answers to zero. check_site writes no buffer. The ratio is proved to reference.");
     println!(
-        "{:<18}{:<13}{:>13}{:>13}{:>8}",
+        "{:<18}{:<16}{:>11}{:>12}{:>8}",
         "site", "call", "proved", "reference", "ratio"
     );
     SHAPES.iter().for_each(bench);
