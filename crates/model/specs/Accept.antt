@@ -16,9 +16,11 @@ use Rattle.model.specs.Site.{kind, instance, pointOf, everywhere, locati
 unfoldable pub clear : ℕ → ℕ → List ℕ → Bool
 clear at n s = same (take n (drop at s)) (zeros n)
 
+-- "real instances are smaller" than NONE.
 abbrev pub real : ℕ → Bool
 real i = ltb i NONE
 
+-- An instance where "NONE is allowed".
 abbrev pub realOrNone : ℕ → Bool
 realOrNone i = leb i NONE
 
@@ -52,6 +54,7 @@ unfoldable pub factorInRange : List ℕ → Bool
 factorInRange s =
     clear 1 1 s && within 1 2 (role s) && leb (factorDisable s) 5 && leb 2 (format s) && clear 9 7 s && clear 24 8 s
 
+-- "a record's kind, field or spare byte": any of the five kinds, with a real instance.
 unfoldable pub inRange : List ℕ → Bool
 inRange s =
     real (instance s)
@@ -65,11 +68,13 @@ inRange s =
 -- ── refusal 3: "Twice the same: two zones, points or credentials of one instance; two identifying factors alike in format and value;
 -- two confirming ones alike in credential, format and value."
 
+-- "two identifying factors alike in format and value; two confirming ones alike in credential, format and value".
 unfoldable pub twinFactors : List ℕ → List ℕ → Bool
 twinFactors s t =
     eqb (role s) (role t) && eqb (format s) (format t) && same (value s) (value t)
     && (eqb (role s) role-identifying || eqb (instance s) (instance t))
 
+-- "two zones, points or credentials of one instance", or two such factors; rules are never twins.
 unfoldable pub twins : List ℕ → List ℕ → Bool
 twins s t =
     eqb (kind s) (kind t)
@@ -77,6 +82,7 @@ twins s t =
     if eqb (kind s) authentication-factor then twinFactors s t else
     eqb (instance s) (instance t))
 
+-- "the same twice": two of the records.
 unfoldable pub twice : List (List ℕ) → Bool
 twice [] = false
 twice (s ∷ ss) = any (twins s) ss || twice ss
@@ -84,9 +90,11 @@ twice (s ∷ ss) = any (twins s) ss || twice ss
 -- ── refusal 4: "A point's zone, a factor's credential and, unless everywhere, a rule's location must exist. A missing rights number is
 -- ignored (002)."
 
+-- "must exist": some record has the kind and instance.
 unfoldable pub exists : List (List ℕ) → ℕ → ℕ → Bool
 exists ss k i = not (missing (findIn (isAt k i) ss))
 
+-- A reference that is "NONE or existing".
 unfoldable pub noneOrExists : List (List ℕ) → ℕ → ℕ → Bool
 noneOrExists ss k i = eqb i NONE || exists ss k i
 

@@ -27,12 +27,14 @@ number StateForm = 6
 number JournalLength = 10
 number AnswersLength = 11
 
+-- "0: worked through".
 unfoldable pub isWorked : Returned → Bool
 isWorked r = eqb (number r) 0
 
 -- ── the site check: "1 site not a multiple of 32, or above 64,000 bytes; 2 a record's kind, field or spare byte out of range; 3 the same
 -- twice; 4 a named object missing"
 
+-- The number that a site check returns; a site is lent to be read alone.
 unfoldable pub checkSite : List ℕ → Returned
 checkSite site =
     if not (eqb (length site % n.record-size) 0) || ltb n.largest-site (length site) then SiteLength else
@@ -43,16 +45,19 @@ checkSite site =
 
 -- ── the fresh state: "Fresh stops after 5": "5 state not as long as the site"
 
+-- What the call gives: what it returns, and the later contents of the state.
 pub record FreshResult : Type 0 where
   pub returned : Returned
   pub state : List ℕ
 
+-- Refusals 1 to 5 in their order.
 unfoldable pub freshReturned : List ℕ → List ℕ → Returned
 freshReturned site state =
     if not (isWorked (checkSite site)) then checkSite site else
     if not (eqb (length state) (length site)) then StateLength else
     WorkedThrough
 
+-- The call: the fresh state, or the state as it was.
 unfoldable pub freshState : List ℕ → List ℕ → FreshResult
 freshState site state =
     record {
@@ -62,11 +67,13 @@ freshState site state =
 
 -- ── the journal run: "6 state not well formed; 10 journal not a multiple of 24, or above 65,520; 11 answers not 16 bytes per entry"
 
+-- What the call gives: what it returns, and the later contents of state and answers.
 pub record RunResult : Type 0 where
   pub returned : Returned
   pub state : List ℕ
   pub answers : List ℕ
 
+-- Refusals 1 to 6, 10, 11 in their order.
 unfoldable pub runReturned : List ℕ → List ℕ → List ℕ → List ℕ → Returned
 runReturned site state journal answered =
     if not (isWorked (freshReturned site state)) then freshReturned site state else
@@ -75,6 +82,7 @@ runReturned site state journal answered =
     if not (eqb (length answered) (length journal / n.entry-size * n.answer-size)) then AnswersLength else
     WorkedThrough
 
+-- The call: state and answers of the entries, or both as they were.
 unfoldable pub runJournal : List ℕ → List ℕ → List ℕ → List ℕ → RunResult
 runJournal site state journal answered =
     record {

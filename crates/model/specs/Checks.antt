@@ -21,19 +21,23 @@ elapsed now since = now - since
 
 -- ── step 1: "Locked, relinquish set, elapsed ≥ it: unlock, failures 0, mark 64. Still locked: 161."
 
+-- "Locked, relinquish set, elapsed ≥ it".
 unfoldable pub relinquished : View → Entry → Bool
 relinquished v e =
     v .«point_state» .locked && not (eqb (v .point .«lockout_relinquish») 0)
     && leb (v .point .«lockout_relinquish») (elapsed (e .time) (v .«point_state» .«lock_time»))
 
+-- "Still locked".
 unfoldable pub stillLocked : View → Entry → Bool
 stillLocked v e = v .«point_state» .locked && not (relinquished v e)
 
 -- ── step 2: "Waiting, and elapsed > a set timeout: 131. Format 1: 148." "Waiting is as the entry found it."
 
+-- "Waiting".
 unfoldable pub waiting : View → Bool
 waiting v = not (eqb (v .«point_state» .«waiting_credential») NONE)
 
+-- "Waiting, and elapsed > a set timeout".
 unfoldable pub overdue : View → Entry → Bool
 overdue v e =
     waiting v && not (eqb (v .point .«factor_timeout») 0)
@@ -45,9 +49,11 @@ overdue v e =
 unfoldable pub presents : ℕ → List ℕ → List ℕ → Bool
 presents form read s = eqb (format s) form && same (value s) read
 
+-- "identifying factor".
 unfoldable pub identifying : ℕ → List ℕ → List ℕ → Bool
 identifying form read s = eqb (kind s) n.authentication-factor && (eqb (role s) n.role-identifying && presents form read s)
 
+-- "confirming factor of that credential".
 unfoldable pub confirming : ℕ → ℕ → List ℕ → List ℕ → Bool
 confirming c form read s = isAt n.authentication-factor c s && (eqb (role s) n.role-confirming && presents form read s)
 
@@ -72,6 +78,7 @@ disabledFactor d =
 
 -- ── step 4: "Not waiting and two wanted: wait from now, event 0."
 
+-- "Not waiting and two wanted".
 unfoldable pub firstOfTwo : View → Bool
 firstOfTwo v = not (waiting v) && eqb (v .point .«factors_wanted») n.two-factors
 
@@ -89,6 +96,7 @@ authenticationOf v e =
       «first_of_two» = firstOfTwo v;
     }
 
+-- The order of steps 1 to 4.
 abbrev pub authentication : Authentication → ℕ → ℕ
 authentication k next =
     if k .locked then n.denied-lockout else
@@ -103,10 +111,12 @@ authentication k next =
 -- ── step 5: "Time < activation 151; > expiry 152; disable 1→158, 2→153, 3→154; days 0: 155; uses 0: 156; last use known and
 -- elapsed > absentee days × 86,400: 157."
 
+-- "last use known and elapsed > absentee days × 86,400".
 unfoldable pub inactive : ℕ → ℕ → ℕ → Bool
 inactive last days time =
     not (eqb last NEVER) && not (eqb days UNLIMITED) && ltb (days * n.seconds-of-day) (elapsed time last)
 
+-- What step 5 finds.
 unfoldable pub validityOf : View → Entry → Validity
 validityOf v e =
     record {
@@ -120,6 +130,7 @@ validityOf v e =
       inactive = inactive (v .«credential_state» .«last_use») (v .credential .«absentee_days») (e .time);
     }
 
+-- The order of step 5.
 abbrev pub validity : Validity → ℕ → ℕ
 validity k next =
     if k .«not_yet_active» then n.denied-credential-not-yet-active else
@@ -134,9 +145,11 @@ validity k next =
 
 -- ── step 9: "AUTHORIZE only, over enabled rules of both rights."
 
+-- A rule of a rights number; NONE has no rules.
 abbrev pub ofRights : ℕ → List ℕ → Bool
 ofRights rights s = not (eqb rights NONE) && isAt n.access-rule rights s
 
+-- "enabled rules of both rights".
 unfoldable pub enabledRule : ℕ → ℕ → List ℕ → Bool
 enabledRule first second s = (ofRights first s || ofRights second s) && enabled s
 
@@ -150,9 +163,11 @@ locationFits point to s =
 unfoldable pub weekday : ℕ → ℕ
 weekday time = time / n.seconds-of-day % n.days-of-week
 
+-- "minute of day".
 unfoldable pub minuteOfDay : ℕ → ℕ
 minuteOfDay time = time / n.seconds-of-minute % n.minutes-of-day
 
+-- "always, or the weekday is set and from ≤ minute of day < to".
 unfoldable pub timeFits : ℕ → List ℕ → Bool
 timeFits time s =
     always s
@@ -169,6 +184,7 @@ verdict first second point to time ss =
 
 -- ── step 10: passback and limits
 
+-- "Zone_To is a zone".
 abbrev pub intoZone : View → Bool
 intoZone v = not (eqb (v .point .«zone_to») NONE)
 
@@ -207,6 +223,7 @@ authorizationOf v rules e =
       «at_upper_limit» = atUpperLimit v;
     }
 
+-- The order of steps 7 to 10.
 abbrev pub authorization : Authorization → ℕ → ℕ
 authorization k next =
     if k .«deny_all» then n.denied-deny-all else
@@ -222,6 +239,7 @@ authorization k next =
 
 -- ── steps 11 and 12: "Count adjust, Zone_To counting, count 4,294,967,295: 164." "Event 1."
 
+-- Steps 11 and 12.
 unfoldable pub passage : View → ℕ
 passage v =
     if v .point .«count_adjust» && v .«zone_to» .counting && eqb (v .«count_to») n.largest-count then n.denied-other

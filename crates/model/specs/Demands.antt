@@ -20,6 +20,7 @@ use Rattle.model.specs.Tally.{standing, tallyOf, countOf}
 use Rattle.model.specs.Part.{Part, SelfContained, partRecords, partEntries, partAnswers, partState}
 use Rattle.model.specs.Earned.{Earned}
 use Rattle.model.specs.declared.Returned.{Returned}
+use Rattle.model.specs.declared.Returned.the-variants.{StateForm}
 use Rattle.model.specs.declared.Operation.the-variants.{Factor}
 
 -- Demand 3, the count: "every zone's count is T less the smaller of zero and T's lowest standing".
@@ -35,8 +36,9 @@ Isolation =
 
 -- A panel never turns back its own state: after every list from fresh the state is well formed, and no run of the list returns 6.
 abbrev pub notStateForm : Returned → Bool
-notStateForm r = not (eqb (number r) 6)
+notStateForm r = not (eqb (number r) (number StateForm))
 
+-- Both, of every list from fresh.
 unfoldable pub WellFormed : Type 0
 WellFormed =
     (h : History) → (wellFormed (h .site) (ended h) ≡ true) × (all notStateForm (returns (h .site) (begun h) (h .runs)) ≡ true)

@@ -25,6 +25,7 @@ named v x =
 
 -- ── "Failures are 129, 131, 132, 148, where a most is set"
 
+-- "Failures are 129, 131, 132, 148, where a most is set".
 unfoldable pub isFailure : View → ℕ → Bool
 isFailure v x =
     not (eqb (v .point .«most_failures») 0)
@@ -42,6 +43,7 @@ isFirstFailure v e =
     || not (eqb (v .point .«failure_window») 0)
     && ltb (v .point .«failure_window») (elapsed (e .time) (v .«point_state» .«first_failure»))
 
+-- "makes 1 .. others add 1".
 unfoldable pub failuresWith : View → Entry → ℕ
 failuresWith v e = if isFirstFailure v e then 1 else failuresBefore v e + 1
 
@@ -73,6 +75,7 @@ pointAfter v e x =
 unfoldable pub counts : View → ℕ → Bool → Bool
 counts v x counting = eqb x n.granted && v .point .«count_adjust» && counting
 
+-- Zone_To's count: it "gains 1".
 unfoldable pub countAfter : View → ℕ → ℕ
 countAfter v x = if counts v x (v .«zone_to» .counting) then v .«count_to» + 1 else v .«count_to»
 
@@ -100,6 +103,7 @@ losesDay v e x =
     eqb x n.granted && not (eqb (v .«credential_state» .days) UNLIMITED)
     && (eqb (v .«credential_state» .«last_use») NEVER || ltb (date (v .«credential_state» .«last_use»)) (date (e .time)))
 
+-- "Limited days lose 1".
 unfoldable pub daysAfter : View → Entry → ℕ → ℕ
 daysAfter v e x = if losesDay v e x then v .«credential_state» .days - 1 else v .«credential_state» .days
 
@@ -119,6 +123,7 @@ credentialAfter v e x =
 
 -- ── marks
 
+-- A mark, where it is set.
 abbrev pub mark : Bool → ℕ → ℕ
 mark on m = if on then m else 0
 
@@ -141,6 +146,7 @@ marks v e x =
 
 -- ── the answer, and the state records that are written
 
+-- "Answer: 0 event; 2 marks; 3 refusal; 4 tag; 8 credential or NONE; 12 count of Zone_To after the entry".
 unfoldable pub answerTo : View → Entry → ℕ → Answer
 answerTo v e x =
     record {
@@ -152,6 +158,7 @@ answerTo v e x =
       count = countAfter v x;
     }
 
+-- "Only the state records of these objects are written": the point, the credential unless the event is 0, and the zones of a counted passage.
 unfoldable pub outcomeOf : View → Entry → ℕ → Outcome
 outcomeOf v e x =
     record {

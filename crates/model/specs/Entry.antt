@@ -56,9 +56,11 @@ objectKind Unknown = 0
 
 -- ── refusal 7: "operation unknown, field or spare byte out of range, instance not real, time never". "Unused bytes are zero."
 
+-- The amount is unused.
 unfoldable pub noAmount : Entry → Bool
 noAmount e = eqb (e .amount) 0
 
+-- The value is unused.
 unfoldable pub noValue : Entry → Bool
 noValue e = same (e .value) (zeros 8)
 
@@ -71,5 +73,6 @@ argumentsFit SetDisable e = leb (e .argument) largest-disable && noAmount e && n
 argumentsFit SetService e = leb (e .argument) argument-lock && noAmount e && noValue e
 argumentsFit Unknown e = false
 
+-- "field or spare byte out of range, instance not real, time never": none of these.
 unfoldable pub inForm : Operation → Entry → Bool
 inForm o e = argumentsFit o e && eqb (e .spare) 0 && ltb (e .instance) NONE && not (eqb (e .time) NEVER)

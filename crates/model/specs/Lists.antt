@@ -17,6 +17,7 @@ pub record Run : Type 0 where
   pub journal : List ℕ
   pub answers : List ℕ
 
+-- The run on a site and a state.
 unfoldable pub runOn : List ℕ → List ℕ → Run → RunResult
 runOn site state r = runJournal site state (r .journal) (r .answers)
 
@@ -25,6 +26,7 @@ unfoldable pub stateAfter : List ℕ → List ℕ → List Run → List ℕ
 stateAfter site state [] = state
 stateAfter site state (r ∷ rs) = stateAfter site (runOn site state r .state) rs
 
+-- What each run of a list returns.
 unfoldable pub returns : List ℕ → List ℕ → List Run → List Returned
 returns site state [] = []
 returns site state (r ∷ rs) = runOn site state r .returned ∷ returns site (runOn site state r .state) rs
@@ -34,18 +36,22 @@ pub record Worked : Type 0 where
   pub entry : List ℕ
   pub answer : List ℕ
 
+-- Entries with their answers, in turn.
 abbrev pub withAnswers : List (List ℕ) → List (List ℕ) → List Worked
 withAnswers [] bs = []
 withAnswers (e ∷ es) [] = []
 withAnswers (e ∷ es) (b ∷ bs) = record { entry = e; answer = b } ∷ withAnswers es bs
 
+-- The answers of a buffer, 16 bytes each.
 unfoldable pub answersIn : List ℕ → List (List ℕ)
 answersIn answers = groups answer-size (length answers / answer-size) answers
 
+-- "those of the journals worked through .. a journal turned back adds nothing".
 unfoldable pub workedBy : Run → RunResult → List Worked
 workedBy r result =
     if isWorked (result .returned) then withAnswers (entries (r .journal)) (answersIn (result .answers)) else []
 
+-- The entries of a list, with their answers.
 unfoldable pub workedIn : List ℕ → List ℕ → List Run → List Worked
 workedIn site state [] = []
 workedIn site state (r ∷ rs) = workedBy r (runOn site state r) ++ workedIn site (runOn site state r .state) rs
@@ -54,9 +60,11 @@ workedIn site state (r ∷ rs) = workedBy r (runOn site state r) ++ workedIn sit
 abbrev pub eventIn : List ℕ → ℕ
 eventIn answer = field 0 2 answer
 
+-- "3 refusal".
 abbrev pub refusalIn : List ℕ → ℕ
 refusalIn answer = field 3 1 answer
 
+-- "8 credential or NONE".
 abbrev pub credentialIn : List ℕ → ℕ
 credentialIn answer = field 8 4 answer
 
@@ -67,12 +75,15 @@ pub record History : Type 0 where
   pub accepted : freshState site buffer .returned ≡ WorkedThrough
   pub runs : List Run
 
+-- The fresh state that the list starts from.
 unfoldable pub begun : History → List ℕ
 begun h = freshState (h .site) (h .buffer) .state
 
+-- The state that the list leaves.
 unfoldable pub ended : History → List ℕ
 ended h = stateAfter (h .site) (begun h) (h .runs)
 
+-- The list's entries, with their answers.
 unfoldable pub worked : History → List Worked
 worked h = workedIn (h .site) (begun h) (h .runs)
 

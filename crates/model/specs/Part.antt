@@ -32,6 +32,7 @@ member P k i =
     if eqb k n.access-credential || eqb k n.authentication-factor then P .credentials i else
     false
 
+-- A record of the part.
 unfoldable pub holds : Part → List ℕ → Bool
 holds P s = member P (kind s) (instance s)
 
@@ -45,15 +46,18 @@ belongs P e = member P (objectKind (operationOf (e .operation))) (e .instance)
 unfoldable pub onSide : Part → ℕ → ℕ → Bool → Bool
 onSide P k i side = eqb i NONE || Bool·beq (member P k i) side
 
+-- "no point's zone is across the border".
 unfoldable pub pointInside : Part → List ℕ → Bool
 pointInside P s =
     onSide P n.access-zone (pointOf s .«zone_to») (holds P s) && onSide P n.access-zone (pointOf s .«zone_from») (holds P s)
 
+-- "rights that a credential of the part names are in it".
 unfoldable pub credentialInside : Part → List ℕ → Bool
 credentialInside P s =
     not (holds P s)
     || onSide P n.access-rule (credentialOf s .«first_rights») true && onSide P n.access-rule (credentialOf s .«second_rights») true
 
+-- Both, of any site record.
 unfoldable pub inside : Part → List ℕ → Bool
 inside P s =
     if eqb (kind s) n.access-point then pointInside P s else
@@ -62,14 +66,17 @@ inside P s =
 
 -- ── "In both lists: no factor read names, as identifying factor, a credential across the border." Asked of reads that are not refused.
 
+-- The factor that a read names "as identifying factor".
 unfoldable pub identified : List (List ℕ) → Entry → List ℕ
 identified ss e = findIn (identifying (e .argument) (e .value)) ss
 
+-- It names no "credential across the border" from the point that read it.
 unfoldable pub identifiedInside : Part → List (List ℕ) → Entry → Bool
 identifiedInside P ss e =
     missing (identified ss e)
     || Bool·beq (member P n.access-credential (instance (identified ss e))) (member P n.access-point (e .instance))
 
+-- Asked of factor reads alone.
 abbrev pub readInsideAs : Operation → Part → List (List ℕ) → Entry → Bool
 readInsideAs Factor P ss e = identifiedInside P ss e
 readInsideAs SetCount P ss e = true
@@ -78,6 +85,7 @@ readInsideAs SetDisable P ss e = true
 readInsideAs SetService P ss e = true
 readInsideAs Unknown P ss e = true
 
+-- Asked where the answer has refusal 0.
 unfoldable pub readInside : Part → List (List ℕ) → Worked → Bool
 readInside P ss w =
     not (eqb (refusalIn (w .answer)) n.not-refused)
@@ -90,17 +98,22 @@ pub record SelfContained (P : Part) (h : History) : Type 0 where
 
 -- ── the part's records in file order, its entries and their answers in order, and the state records of its records in file order
 
+-- "Records, in file order".
 unfoldable pub partRecords : Part → History → List (List ℕ)
 partRecords P h = keep (holds P) (records (h .site))
 
+-- The part's entries with their answers.
 unfoldable pub partWorked : Part → History → List Worked
 partWorked P h = keep (λ (w : Worked). belongs P (entryOf (w .entry))) (worked h)
 
+-- "entries, in order".
 unfoldable pub partEntries : Part → History → List (List ℕ)
 partEntries P h = map (λ (w : Worked). w .entry) (partWorked P h)
 
+-- "the answers to the part's entries, in order".
 unfoldable pub partAnswers : Part → History → List (List ℕ)
 partAnswers P h = map (λ (w : Worked). w .answer) (partWorked P h)
 
+-- "the state records of its records, in file order".
 unfoldable pub partState : Part → History → List (List ℕ)
 partState P h = map (λ (x : Pair). x .1) (keep (λ (x : Pair). holds P (x .0)) (panel (h .site) (ended h)))

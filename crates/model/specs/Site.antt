@@ -19,9 +19,11 @@ records site = groups record-size (length site / record-size) site
 abbrev pub kind : List ℕ → ℕ
 kind s = field 0 1 s
 
+-- "1 flags (bit 0 lowest)".
 abbrev pub flag : List ℕ → ℕ → Bool
 flag s i = bit (field 1 1 s) i
 
+-- "4 instance (4 bytes)".
 abbrev pub instance : List ℕ → ℕ
 instance s = field 4 4 s
 
@@ -68,27 +70,35 @@ pointOf s =
 abbrev pub enabled : List ℕ → Bool
 enabled s = flag s 0
 
+-- "1 negative".
 abbrev pub negative : List ℕ → Bool
 negative s = flag s 1
 
+-- "2 always".
 abbrev pub always : List ℕ → Bool
 always s = flag s 2
 
+-- "3 everywhere".
 abbrev pub everywhere : List ℕ → Bool
 everywhere s = flag s 3
 
+-- "2: location kind 1 zone or 2 point."
 abbrev pub locationKind : List ℕ → ℕ
 locationKind s = field 2 1 s
 
+-- "3: days, bit 0 Monday to bit 6 Sunday."
 abbrev pub weekdays : List ℕ → ℕ
 weekdays s = field 3 1 s
 
+-- "8 location (4)."
 abbrev pub location : List ℕ → ℕ
 location s = field 8 4 s
 
+-- "12 from".
 abbrev pub fromMinute : List ℕ → ℕ
 fromMinute s = field 12 2 s
 
+-- "14 to, minutes (2 each)".
 abbrev pub toMinute : List ℕ → ℕ
 toMinute s = field 14 2 s
 
@@ -115,18 +125,22 @@ credentialOf s =
 abbrev pub role : List ℕ → ℕ
 role s = field 2 1 s
 
+-- "3: disable".
 abbrev pub factorDisable : List ℕ → ℕ
 factorDisable s = field 3 1 s
 
+-- "8 format".
 abbrev pub format : List ℕ → ℕ
 format s = field 8 1 s
 
+-- "16 value; all eight value bytes".
 abbrev pub value : List ℕ → List ℕ
 value s = take 8 (drop 16 s)
 
 -- ── "The lookup hands back the 32 bytes of the record itself: of any slice the first whole group with the kind and instance, else an
 -- empty part." "Instances are numbered per object type, so zone 7 is never credential 7."
 
+-- "with the kind and instance".
 abbrev pub isAt : ℕ → ℕ → List ℕ → Bool
 isAt k i s = eqb (kind s) k && eqb (instance s) i
 
@@ -135,5 +149,6 @@ abbrev pub findIn : (List ℕ → Bool) → List (List ℕ) → List ℕ
 findIn q [] = []
 findIn q (s ∷ ss) = if q s then s else findIn q ss
 
+-- "of any slice the first whole group with the kind and instance, else an empty part".
 unfoldable pub lookup : ℕ → ℕ → List ℕ → List ℕ
 lookup k i site = findIn (isAt k i) (records site)

@@ -16,6 +16,7 @@ use Rattle.model.specs.declared.CredentialState.{CredentialState}
 abbrev pub count : List ℕ → ℕ
 count t = field 0 4 t
 
+-- The bytes of that record.
 unfoldable pub zoneBytes : ℕ → List ℕ
 zoneBytes n = digits 4 n ++ zeros 28
 
@@ -32,6 +33,7 @@ pointStateOf t =
       «waiting_since» = field 20 4 t;
     }
 
+-- The bytes of that record.
 unfoldable pub pointBytes : PointState → List ℕ
 pointBytes p =
     digits 4 (p .tag) ++ digits 1 (p .failures) ++ digits 1 (bitOf (p .locked)) ++ zeros 2 ++ digits 4 (p .«lock_time»)
@@ -52,6 +54,7 @@ credentialStateOf t =
       «last_point» = reference 20 t;
     }
 
+-- The bytes of that record.
 unfoldable pub credentialBytes : CredentialState → List ℕ
 credentialBytes c =
     digits 2 (c .uses) ++ digits 2 (c .days) ++ digits 4 (c .«last_use») ++ digits 4 (c .zone) ++ digits 4 (c .entered)
@@ -63,17 +66,21 @@ credentialBytes c =
 abbrev pub Pair : Type 0
 Pair = List ℕ × List ℕ
 
+-- All of them, in file order.
 abbrev pub Panel : Type 0
 Panel = List Pair
 
+-- The first n records of site and state, side by side.
 unfoldable pub paired : ℕ → List ℕ → List ℕ → Panel
 paired zero site state = []
 paired (suc n) site state =
     (take record-size site, take record-size state) ∷ paired n (drop record-size site) (drop record-size state)
 
+-- "one of 32 bytes per site record".
 unfoldable pub panel : List ℕ → List ℕ → Panel
 panel site state = paired (length site / record-size) site state
 
+-- The site records of a panel.
 abbrev pub sites : Panel → List (List ℕ)
 sites ps = map (λ (x : Pair). x .0) ps
 
@@ -86,6 +93,7 @@ abbrev pub findBy : (List ℕ → Bool) → Panel → Pair
 findBy q [] = ([], [])
 findBy q (x ∷ xs) = if q (x .0) then x else findBy q xs
 
+-- The record of a kind and instance in the panel.
 unfoldable pub find : ℕ → ℕ → Panel → Pair
 find k i ps = findBy (isAt k i) ps
 
@@ -104,6 +112,7 @@ write on k i b ps = if on && not (eqb i NONE) then store k i b ps else ps
 
 -- ── "Fresh: uses, days, disable from the site; references NONE; last use and entered never; else zero." "Rule, factor: zero."
 
+-- A point: "references NONE .. else zero".
 unfoldable pub freshPoint : PointState
 freshPoint =
     record {
@@ -116,6 +125,7 @@ freshPoint =
       «waiting_since» = 0;
     }
 
+-- A credential: "uses, days, disable from the site; references NONE; last use and entered never; else zero".
 unfoldable pub freshCredential : List ℕ → CredentialState
 freshCredential s =
     record {
@@ -129,30 +139,36 @@ freshCredential s =
       «last_point» = NONE;
     }
 
+-- The fresh record of a site record; "Rule, factor: zero", and so is a zone's.
 unfoldable pub freshRecord : List ℕ → List ℕ
 freshRecord s =
     if eqb (kind s) access-point then pointBytes freshPoint else
     if eqb (kind s) access-credential then credentialBytes (freshCredential s) else
     zeros record-size
 
+-- The fresh state of a site.
 unfoldable pub fresh : List ℕ → List ℕ
 fresh site = flatten (map freshRecord (records site))
 
 -- ── "Well formed: unnamed bytes zero, fields in range, references NONE or existing, locked points wait for nobody, failures below the
 -- most (0 if unset)."
 
+-- A zone: "unnamed bytes zero".
 unfoldable pub zoneWell : List ℕ → Bool
 zoneWell t = clear 4 28 t
 
+-- "failures below the most (0 if unset)".
 unfoldable pub failuresWell : ℕ → ℕ → Bool
 failuresWell failures most = if eqb most 0 then eqb failures 0 else ltb failures most
 
+-- A point: "unnamed bytes zero, fields in range, references NONE or existing, locked points wait for nobody, failures below the most".
 unfoldable pub pointWell : List (List ℕ) → List ℕ → List ℕ → Bool
 pointWell ss s t =
     leb (field 5 1 t) 1 && clear 6 2 t && clear 24 8 t && noneOrExists ss access-credential (pointStateOf t .«waiting_credential»)
     && (not (pointStateOf t .locked) || eqb (pointStateOf t .«waiting_credential») NONE)
     && failuresWell (pointStateOf t .failures) (pointOf s .«most_failures»)
 
+-- A credential: "unnamed bytes zero, fields in range, references NONE or existing".
 unfoldable pub credentialWell : List (List ℕ) → List ℕ → Bool
 credentialWell ss t =
     leb (credentialStateOf t .disable) largest-disable && clear 19 1 t && clear 24 8 t
@@ -167,5 +183,6 @@ recordWell ss x =
     if eqb (kind (x .0)) access-credential then credentialWell ss (x .1) else
     clear 0 record-size (x .1)
 
+-- "Well formed": every state record is.
 unfoldable pub wellFormed : List ℕ → List ℕ → Bool
 wellFormed site state = all (recordWell (records site)) (panel site state)

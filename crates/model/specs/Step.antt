@@ -26,19 +26,24 @@ use Rattle.model.specs.declared.Operation.the-variants.{Factor, SetCount
 
 -- ── what an outcome leaves unwritten, and outcomes that write no state
 
+-- No point is written.
 unfoldable pub noPoint : PointWrite
 noPoint = record { written = false; instance = NONE; state = freshPoint }
 
+-- No credential is written.
 unfoldable pub noCredential : CredentialWrite
 noCredential = record { written = false; instance = NONE; state = freshCredential [] }
 
+-- No zone is written.
 unfoldable pub noCount : CountWrite
 noCount = record { written = false; instance = NONE; count = 0 }
 
+-- "event 0, credential NONE, no marks".
 abbrev pub noAnswer : ℕ → ℕ → ℕ → Answer
 noAnswer refusal tag counted =
     record { event = n.no-event; marks = 0; refusal = refusal; tag = tag; credential = NONE; count = counted }
 
+-- "nothing changes".
 unfoldable pub unchanged : Answer → Outcome
 unchanged a = record { answer = a; point = noPoint; credential = noCredential; «zone_to» = noCount; «zone_from» = noCount }
 
@@ -52,18 +57,23 @@ refuse refusal = unchanged (noAnswer refusal 0 0)
 unfoldable pub factorRead : Panel → Entry → Pair → List ℕ
 factorRead ps e p = factorFor (pointStateOf (p .1) .«waiting_credential») e (sites ps)
 
+-- "the credential waited for, else the one that step 3 matched, else NONE".
 unfoldable pub numberRead : Panel → Entry → Pair → ℕ
 numberRead ps e p = credentialRead (pointStateOf (p .1) .«waiting_credential») (factorRead ps e p)
 
+-- The records of Zone_To.
 unfoldable pub zoneTo : Panel → Pair → Pair
 zoneTo ps p = seek n.access-zone (pointOf (p .0) .«zone_to») ps
 
+-- The records of Zone_From.
 unfoldable pub zoneFrom : Panel → Pair → Pair
 zoneFrom ps p = seek n.access-zone (pointOf (p .0) .«zone_from») ps
 
+-- The records of the credential read.
 unfoldable pub credentialAt : Panel → Entry → Pair → Pair
 credentialAt ps e p = seek n.access-credential (numberRead ps e p) ps
 
+-- All that steps 1 to 11 look at, but for the rules.
 unfoldable pub viewOf : Panel → Entry → Pair → View
 viewOf ps e p =
     record {
@@ -80,6 +90,7 @@ viewOf ps e p =
       «credential_state» = credentialStateOf (credentialAt ps e p .1);
     }
 
+-- What the rules say (step 9).
 unfoldable pub rulesAt : Panel → Entry → Pair → Verdict
 rulesAt ps e p =
     verdict (viewOf ps e p .credential .«first_rights») (viewOf ps e p .credential .«second_rights») (e .instance)
@@ -94,6 +105,7 @@ factorOutcome ps e p =
 
 -- ── operations 2 and 3: "Set a zone's count to the amount." "Adjust it by the amount, signed; below zero becomes 0."
 
+-- "2. Set a zone's count": operations 2 and 3 "give event 0 and tag 0", with the zone's count.
 unfoldable pub countOutcome : Entry → ℕ → Outcome
 countOutcome e counted =
     record {
@@ -104,9 +116,11 @@ countOutcome e counted =
       «zone_from» = noCount;
     }
 
+-- "signed".
 unfoldable pub isNegative : ℕ → Bool
 isNegative amount = leb n.first-negative amount
 
+-- "Adjust it by the amount, signed; below zero becomes 0".
 unfoldable pub adjusted : ℕ → ℕ → ℕ
 adjusted counted amount = if isNegative amount then counted - (n.modulus - amount) else counted + amount
 
@@ -118,6 +132,7 @@ adjustOutcome e counted =
 
 -- ── operation 4: "Set a credential's disable to the argument." Of operations 2 to 5 it alone fills the credential.
 
+-- The credential with that disable.
 unfoldable pub disableAfter : CredentialState → ℕ → CredentialState
 disableAfter c disable =
     record {
@@ -131,6 +146,7 @@ disableAfter c disable =
       «last_point» = c .«last_point»;
     }
 
+-- "4. Set a credential's disable to the argument."
 unfoldable pub disableOutcome : Entry → CredentialState → Outcome
 disableOutcome e c =
     record {
@@ -143,9 +159,11 @@ disableOutcome e c =
 
 -- ── operation 5: "argument 1 locks a point from now and drops its wait (event 7); 0 unlocks and zeroes failures (event 8)"
 
+-- "argument 1 locks".
 unfoldable pub locks : Entry → Bool
 locks e = eqb (e .argument) n.argument-lock
 
+-- "locks a point from now and drops its wait .. 0 unlocks and zeroes failures"; the tag gains 1.
 unfoldable pub serviceAfter : Entry → PointState → PointState
 serviceAfter e p =
     record {
@@ -158,6 +176,7 @@ serviceAfter e p =
       «waiting_since» = p .«waiting_since»;
     }
 
+-- "(event 7) .. (event 8)".
 unfoldable pub serviceOutcome : Entry → PointState → ℕ → Outcome
 serviceOutcome e p counted =
     record {
@@ -187,12 +206,14 @@ workedOutcome SetDisable ps e x = disableOutcome e (credentialStateOf (x .1))
 workedOutcome SetService ps e x = serviceOutcome e (pointStateOf (x .1)) (count (zoneTo ps x .1))
 workedOutcome Unknown ps e x = refuse n.refused-form
 
+-- "per entry 7, 8, 9": form, object, then the operation.
 unfoldable pub outcomeAs : Operation → Panel → Entry → Pair → Outcome
 outcomeAs o ps e x =
     if not (inForm o e) then refuse n.refused-form else
     if missing (x .0) then refuse n.refused-no-object else
     workedOutcome o ps e x
 
+-- The entry's operation, at the object that its instance names.
 unfoldable pub entryOutcome : Panel → Entry → Outcome
 entryOutcome ps e =
     outcomeAs (operationOf (e .operation)) ps e (find (objectKind (operationOf (e .operation))) (e .instance) ps)
@@ -207,10 +228,12 @@ apply o ps =
 
 -- ── a list of entries: the panel after it, and the answers
 
+-- The panel after the entries, in turn.
 unfoldable pub after : Panel → List Entry → Panel
 after ps [] = ps
 after ps (e ∷ es) = after (apply (entryOutcome ps e) ps) es
 
+-- Their answers.
 unfoldable pub answers : Panel → List Entry → List Answer
 answers ps [] = []
 answers ps (e ∷ es) = entryOutcome ps e .answer ∷ answers (apply (entryOutcome ps e) ps) es

@@ -22,6 +22,7 @@ pub record Tally : Type 0 where
   pub T : ℤ
   pub L : ℤ
 
+-- "the smaller of" two whole numbers.
 unfoldable pub smaller : ℤ → ℤ → ℤ
 smaller a b = if leZ a b then a else b
 
@@ -33,6 +34,7 @@ move d t = record { T = t .T +ℤ d; L = smaller (t .L) (t .T +ℤ d) }
 unfoldable pub setTo : ℕ → Tally
 setTo amount = record { T = pos amount; L = pos amount }
 
+-- "its signed amount".
 unfoldable pub signed : ℕ → ℤ
 signed amount = if isNegative amount then negℤ (pos (n.modulus - amount)) else pos amount
 
@@ -57,14 +59,17 @@ talliedAs SetDisable z ss e event refusal t = t
 talliedAs SetService z ss e event refusal t = t
 talliedAs Unknown z ss e event refusal t = t
 
+-- One worked entry: the tally reads its "event and refusal".
 unfoldable pub tallied : ℕ → List (List ℕ) → Worked → Tally → Tally
 tallied z ss w t =
     talliedAs (operationOf (entryOf (w .entry) .operation)) z ss (entryOf (w .entry)) (eventIn (w .answer)) (refusalIn (w .answer)) t
 
+-- Worked entries, in turn.
 unfoldable pub tally : ℕ → List (List ℕ) → List Worked → Tally → Tally
 tally z ss [] t = t
 tally z ss (w ∷ ws) t = tally z ss ws (tallied z ss w t)
 
+-- The zone's tally over a list; T and L "start at 0".
 unfoldable pub tallyOf : ℕ → History → Tally
 tallyOf z h = tally z (records (h .site)) (worked h) (setTo 0)
 

@@ -26,6 +26,7 @@ module _ {A : Type 0} where
   all q [] = true
   all q (x ∷ xs) = q x && all q xs
 
+-- n zero bytes.
 abbrev pub zeros : ℕ → List ℕ
 zeros n = replicate n 0
 
@@ -33,6 +34,7 @@ zeros n = replicate n 0
 abbrev pub bit : ℕ → ℕ → Bool
 bit byte i = eqb (byte / 2 ^ i % 2) 1
 
+-- A flag as a byte: 0 or 1.
 abbrev pub bitOf : Bool → ℕ
 bitOf true = 1
 bitOf false = 0
