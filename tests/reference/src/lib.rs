@@ -17,6 +17,7 @@ pub mod journal;
 pub mod layout;
 pub mod numbers;
 pub mod occurrences;
+pub mod one_point;
 pub mod print;
 mod rights;
 pub mod scenarios;

@@ -1,33 +1,16 @@
 //! Waiting, lockout and marks of factor reads.
 
-use reference::build::{Credential, EntryFields, Factor, Panel, Point, Zone, FORMAT};
+use reference::build::{Credential, EntryFields, Factor, Panel, Point, Zone};
 use reference::bytes::get32;
 use reference::layout::{credential_state, point_state};
 use reference::numbers::{
     authorization_mode, credential_flag, event, factor_role, factors_wanted, format, kind, mark,
     passback_mode, point_flag, zone_flag, MOST_COUNT, NEVER, NONE,
 };
-
-const CARD: [u8; 8] = [0, 0, 0, 0, 0, 0, 0, 0x55];
-const CODE: [u8; 8] = [0, 0, 0, 0, 0, 0, 0x12, 0x34];
-
-fn badge(time: u32) -> EntryFields {
-    EntryFields::read_factor(time, 1, FORMAT, CARD)
-}
-
-fn enter_code(time: u32) -> EntryFields {
-    EntryFields::read_factor(time, 1, FORMAT, CODE)
-}
+use reference::one_point::{badge, enter_code, open_point, CARD, CODE};
 
 fn read_error(time: u32) -> EntryFields {
     EntryFields::read_factor(time, 1, format::ERROR, [0; 8])
-}
-
-fn open_point() -> Point {
-    Point {
-        authorization_mode: authorization_mode::GRANT_ACTIVE,
-        ..Point::new(1)
-    }
 }
 
 fn two_factor_point() -> Point {

@@ -1,31 +1,14 @@
 //! The misreadings that document 01 names, each shown not to be what the engine does.
 
-use crate::build::{Credential, EntryFields, Factor, Panel, Point, Rule, Zone, FORMAT};
+use crate::build::{Credential, EntryFields, Factor, Panel, Point, Rule, Zone};
 use crate::bytes::get16;
 use crate::engine::Engine;
 use crate::layout::credential_state;
 use crate::numbers::{
-    authorization_mode, event, factor_role, factors_wanted, kind, passback_mode, rule_flag,
-    EVERY_DAY, NONE, SECONDS_PER_DAY, SECONDS_PER_MINUTE,
+    event, factor_role, factors_wanted, kind, passback_mode, rule_flag, EVERY_DAY, NONE,
+    SECONDS_PER_DAY, SECONDS_PER_MINUTE,
 };
-
-const CARD: [u8; 8] = [0, 0, 0, 0, 0, 0, 0, 0x55];
-const CODE: [u8; 8] = [0, 0, 0, 0, 0, 0, 0x12, 0x34];
-
-fn badge(time: u32) -> EntryFields {
-    EntryFields::read_factor(time, 1, FORMAT, CARD)
-}
-
-fn enter_code(time: u32) -> EntryFields {
-    EntryFields::read_factor(time, 1, FORMAT, CODE)
-}
-
-fn open_point() -> Point {
-    Point {
-        authorization_mode: authorization_mode::GRANT_ACTIVE,
-        ..Point::new(1)
-    }
-}
+use crate::one_point::{badge, enter_code, open_point, CARD, CODE};
 
 pub fn days_do_not_fall_on_every_grant(engine: Engine) {
     let mut panel = Panel::fresh_by(
