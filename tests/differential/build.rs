@@ -1,4 +1,4 @@
-//! Links the proved library, which `rt staticlib panel` writes at the repository's root.
+//! Links the proved library, which `bash library/build` writes. The package `linked` uses it too.
 
 use std::env;
 use std::path::{Path, PathBuf};
@@ -8,19 +8,19 @@ const LIB_DIR: &str = "WARBLEHAY_LIB_DIR";
 
 fn main() {
     let directory = env::var_os(LIB_DIR).map_or_else(repository_directory, PathBuf::from);
-    let archive = directory.join("libpanel.a");
+    let archive = directory.join("libwarblehay.a");
     println!("cargo:rerun-if-env-changed={LIB_DIR}");
     println!("cargo:rerun-if-changed={}", archive.display());
     assert!(
         archive.is_file(),
-        "{} is missing: run `rt staticlib panel` first",
+        "{} is missing: run `bash library/build` first",
         archive.display()
     );
     println!("cargo:rustc-link-search=native={}", directory.display());
-    println!("cargo:rustc-link-lib=static=panel");
+    println!("cargo:rustc-link-lib=static=warblehay");
 }
 
 fn repository_directory() -> PathBuf {
     let package = env::var_os("CARGO_MANIFEST_DIR").expect("cargo sets it for build scripts");
-    Path::new(&package).join("../../target/staticlib")
+    Path::new(&package).join("../../target/library")
 }

@@ -3,6 +3,7 @@ ghost use mathlib.Core.Path.{_≡_};
 ghost use Rattle.model.specs.Checks.{intoZone, passbackViolated, atLowerLimit, atUpperLimit, authorizationOf, authorization, passage};
 use crate::words::choose_short;
 use crate::words::elapsed;
+use crate::words::has_reached;
 use crate::words::of_minutes;
 use crate::words::wide;
 use model::Authorization;
@@ -46,7 +47,7 @@ pub fn is_at_upper_limit(v: View) -> bool
         & v.point.upper_enforced
         & v.zone_to.counting
         & (v.zone_to.upper_limit != 0)
-        & (v.zone_to.upper_limit <= v.count_to)
+        & has_reached(v.count_to, v.zone_to.upper_limit)
 }
 
 // What steps 7 to 10 find, with what the rules say.

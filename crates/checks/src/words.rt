@@ -1,6 +1,7 @@
 // The arithmetic of the checks, over numbers alone, and the choice between two numbers.
 ghost use mathlib.Core.Path.{_≡_};
 ghost use Prim.Native.Nat.{_*_};
+ghost use lib.Dec.{leb};
 ghost use Rattle.model.specs.Words.{if_then_else_};
 ghost use Rattle.model.specs.Checks as m;
 ghost use Rattle.model.specs.Numbers as n;
@@ -40,6 +41,13 @@ pub fn of_days(days: u16) -> u64
     ensures { λ r. ⌜ r ≡ days * n.seconds-of-day ⌝ }
 {
     (days as u64) * (numbers::SECONDS_OF_DAY as u64)
+}
+
+// Whether a count has reached a limit: one more would pass it.
+pub fn has_reached(count: u32, limit: u32) -> bool
+    ensures { λ r. ⌜ r ≡ leb limit count ⌝ }
+{
+    (limit as u64) < (count as u64) + 1
 }
 
 // One of two numbers.

@@ -8,46 +8,39 @@ use lib.Dec.{eqb, ltb}
 use lib.ListN.{length, take, drop, getD, set, length-append, length-take, length-drop}
 use lib.Seq.{take-at, drop-at, take-add, drop-drop, length-take-le}
 use borrow.Author.Tests.{lt-ltb, not-true}
-use Rattle.octets.specs.Octets.{groups}
-use Rattle.octets.proofs.Groups.{joined-back, group-rest}
+use Rattle.octets.specs.Octets.{groups, withPart}
+use Rattle.octets.proofs.Groups.{joined-back}
 use Rattle.model.specs.Words.{if_then_else_}
 use Rattle.model.specs.Numbers.{NONE}
 use Rattle.model.specs.State.{Pair, paired, panel, stateOf, find, seek, store, write, zoneBytes, pointBytes, credentialBytes}
 use Rattle.model.specs.Step.{apply}
 use Rattle.model.proofs.Laws.{and-right}
-use Rattle.model.proofs.Flat.{sites-panel}
+use Rattle.model.proofs.Flat.{sites-panel, paired-at}
 use Rattle.model.proofs.RoundTrip.{length-zone, length-point, length-credential}
 use Rattle.site.specs.Place.{placeOf}
 use Rattle.site.proofs.Places.{place-found}
 use Rattle.site.proofs.Panels as Panels
 use Rattle.site.proofs.Records.{length-records}
-use Rattle.journal.specs.Places.{partAt, seekPlace, storedAt, stored, written, applied, Placed}
+use Rattle.journal.specs.Places.{partAt, seekPlace, stored, written, applied, Placed}
 use Rattle.site.specs.declared.Place.{Place}
 use Rattle.site.specs.declared.Place.the-variants.{At, Nothing}
 use Rattle.journal.specs.declared.Places.{Places}
 use Rattle.model.specs.declared.Outcome.{Outcome}
 
--- ── the j-th record of the panel of site and state
-
-pub getD-paired : (k j : ℕ) (site state : List ℕ) → j < k →
-    getD (paired k site state) j ([], []) ≡ (getD (groups 32 k site) j [], getD (groups 32 k state) j [])
-unfolding paired groups
-getD-paired zero j site state h = absurd (omega arith)
-getD-paired (suc k) zero site state h = refl
-getD-paired (suc k) (suc j) site state h = getD-paired k j (drop 32 site) (drop 32 state) (omega arith)
+-- ── the j-th record of the panel of site and state, written
 
 paired-stored : (k j : ℕ) (site state b : List ℕ) → j < k → k * 32 ≤ length state → length b ≡ 32 →
-    paired k site (storedAt j b state) ≡ set (paired k site state) j (getD (paired k site state) j ([], []) .0, b)
-unfolding paired storedAt
+    paired k site (withPart 32 j b state) ≡ set (paired k site state) j (getD (paired k site state) j ([], []) .0, b)
+unfolding paired withPart
 paired-stored zero j site state b h fits l = absurd (omega arith)
 paired-stored (suc k) zero site state b h fits l = rw (take-at b (drop 32 state) 32 l, drop-at b (drop 32 state) 32 l)
 paired-stored (suc k) (suc j) site state b h fits l =
     let m : suc j * 32 ≡ 32 + j * 32 = omega arith in
     let e : 32 + j * 32 + 32 ≡ 32 + (j * 32 + 32) = omega arith in
     let w : length (take 32 state) ≡ 32 = length-take-le 32 state (omega arith) in
-    let t : take (suc j * 32) state ++ (b ++ drop (suc j * 32 + 32) state) ≡ take 32 state ++ storedAt j b (drop 32 state) =
+    let t : take (suc j * 32) state ++ (b ++ drop (suc j * 32 + 32) state) ≡ take 32 state ++ withPart 32 j b (drop 32 state) =
     rw (m, e, take-add 32 (j * 32) state, ← drop-drop (j * 32 + 32) 32 state) (append-assoc (take 32 state) (take (j * 32) (drop 32 state)) (b ++ drop (j * 32 + 32) (drop 32 state))) in
-    rw (t, take-at (take 32 state) (storedAt j b (drop 32 state)) 32 w, drop-at (take 32 state) (storedAt j b (drop 32 state)) 32 w)
+    rw (t, take-at (take 32 state) (withPart 32 j b (drop 32 state)) 32 w, drop-at (take 32 state) (withPart 32 j b (drop 32 state)) 32 w)
     (ap (λ qs. (take 32 site, take 32 state) ∷ qs) (paired-stored k j (drop 32 site) (drop 32 state) b (omega arith) (simp length-drop (omega arith)) l))
 
 -- The state records of the panel are the groups of the state.
@@ -63,7 +56,7 @@ module _ (site state : List ℕ) (whole-site : length site % 32 ≡ 0) (same-len
       getD (panel site state) j ([], []) ≡ (partAt (At j) site, partAt (At j) state)
   unfolding panel
   records-at j h =
-      rw same-length (getD-paired (length site / 32) j site state h)
+      rw same-length (paired-at (length site / 32) j site state h)
 
   -- The place of a record is one of the records'.
   in-site : (k i j : ℕ) → placeOf k i site ≡ At j → j < length site / 32
@@ -86,7 +79,7 @@ module _ (site state : List ℕ) (whole-site : length site % 32 ≡ 0) (same-len
       go false = find-at k i
 
   panel-stored : (j : ℕ) (b : List ℕ) → j < length site / 32 → length b ≡ 32 →
-      panel site (storedAt j b state) ≡ set (panel site state) j (getD (panel site state) j ([], []) .0, b)
+      panel site (withPart 32 j b state) ≡ set (panel site state) j (getD (panel site state) j ([], []) .0, b)
   unfolding panel
   panel-stored j b h l = paired-stored (length site / 32) j site state b h (omega arith) l
 
@@ -99,7 +92,7 @@ module _ (site state : List ℕ) (whole-site : length site % 32 ≡ 0) (same-len
       rw t (
         panel-stored j b h l
             ∙ sym (Panels.store-at k i site (panel site state) (sites-panel site state) b j e),
-        unfold storedAt in (simp (length-append, length-take, length-drop) (omega (arith, h, l))),
+        unfold withPart in (simp (length-append, length-take, length-drop) (omega (arith, h, l))),
       )
   store-at k i b l Nothing e = (sym (Panels.store-nowhere k i site (panel site state) (sites-panel site state) b e), same-length)
 
@@ -133,9 +126,3 @@ state-of site state w l = go (length site / 32) site state (omega arith)
   where
     go : (k : ℕ) (site state : List ℕ) → length state ≡ k * 32 → stateOf (paired k site state) ≡ state
     go k site state h = ap flatten (states k site state) ∙ joined-back 32 k state h
-
--- A part that was lent to a writer of 32 bytes comes back as a stored record.
-pub stored-back : (i : ℕ) (b g state : List ℕ) → g ≡ b →
-    take (i * 32) state ++ (g ++ drop (i * 32 + 32 - i * 32) (drop (i * 32) state)) ≡ storedAt i b state
-unfolding storedAt
-stored-back i b g state e = rw (e, group-rest 32 i state)

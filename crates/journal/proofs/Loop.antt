@@ -2,34 +2,21 @@
 use Prim.Native.Nat.{ℕ, suc, _+_, _-_, _*_, _/_, _%_, _≤_, _<_}
 use native.Mathlib.Omega.{arith}
 use mathlib.Core.Path.{_≡_, refl, sym, _∙_, ap, ap₂}
-use mathlib.Core.List.{List, [], _∷_, _++_, append-assoc, append-nil, map, map-append, flatten}
+use mathlib.Core.List.{List, [], _∷_, _++_, append-nil, map, map-append, flatten}
 use lib.ListN.{length, take, drop, getD, length-map, List·getD-map, drop-of-length-le}
-use lib.Seq.{take-all, take-suc, take-at, drop-at, drop-drop, length-take-le}
-use Rattle.octets.specs.Octets.{groups}
-use Rattle.octets.proofs.Groups.{length-groups, group-at, group-rest}
+use lib.Seq.{take-all, take-suc, length-take-le}
+use Rattle.octets.specs.Octets.{groups, withPart}
+use Rattle.octets.proofs.Groups.{length-groups, group-at}
+use Rattle.octets.proofs.Written.{flatten-append, part-behind}
 use Rattle.model.specs.State.{Panel, panel, stateOf}
 use Rattle.model.specs.Entry.{entryOf, entries, answerBytes}
 use Rattle.model.specs.Step.{apply, entryOutcome, after, answers}
 use Rattle.model.proofs.Flat.{length-flatten, panel-back, length-back}
 use Rattle.model.proofs.Runs.{answers-append, answers-sized, length-answers}
 use Rattle.model.proofs.Untouched.{after-next}
-use Rattle.journal.specs.Run.{answeredAt}
 use Rattle.journal.proofs.At.{state-of}
 use Rattle.model.specs.declared.Answer.{Answer}
 use Rattle.model.specs.declared.Entry.{Entry}
-
-flatten-append : (xs ys : List (List ℕ)) → flatten (xs ++ ys) ≡ flatten xs ++ flatten ys
-unfolding flatten
-flatten-append [] ys = refl
-flatten-append (x ∷ xs) ys = rw (flatten-append xs ys) (sym (append-assoc x (flatten xs) (flatten ys)))
-
--- The next answer stands behind those before it.
-answered-behind : (k : ℕ) (done b room : List ℕ) → length done ≡ k * 16 → answeredAt k b (done ++ drop (k * 16) room) ≡ (done ++ b) ++ drop (suc k * 16) room
-unfolding answeredAt
-answered-behind k done b room l =
-    let m : suc k * 16 ≡ k * 16 + 16 = omega arith in
-    rw (take-at done (drop (k * 16) room) (k * 16) l, ← drop-drop 16 (k * 16) (done ++ drop (k * 16) room), drop-at done (drop (k * 16) room) (k * 16) l, drop-drop 16 (k * 16) room, m)
-    (sym (append-assoc done b (drop (k * 16 + 16) room)))
 
 module _ (site : List ℕ) (es : List Entry) (ps : Panel) (room : List ℕ) where
   -- The answers to the first k entries.
@@ -66,7 +53,7 @@ module _ (site : List ℕ) (es : List Entry) (ps : Panel) (room : List ℕ) wher
 
   pub done-step : length site % 32 ≡ 0 → (k : ℕ) (state answers′ state′ answers″ : List ℕ) (e d : Entry) (a : Answer) → k < length es → length es * 16 ≤ length room → e ≡ getD es k d →
       state′ ≡ stateOf (apply (entryOutcome (panel site state) e) (panel site state)) → a ≡ entryOutcome (panel site state) e .answer →
-      answers″ ≡ answeredAt k (answerBytes a) answers′ → Done k state answers′ → Done (suc k) state′ answers″
+      answers″ ≡ withPart 16 k (answerBytes a) answers′ → Done k state answers′ → Done (suc k) state′ answers″
   unfolding after answered
   done-step whole-site k state answers′ state′ answers″ e d a h fits g s r b done =
       let q = done .state-is in
@@ -78,7 +65,7 @@ module _ (site : List ℕ) (es : List Entry) (ps : Panel) (room : List ℕ) wher
       record {
         state-length = l;
         state-is = p ∙ n;
-        answers-are = b ∙ ap (answeredAt k (answerBytes a)) (done .answers-are) ∙ answered-behind k (answered k) (answerBytes a) room m ∙ ap (λ xs. xs ++ drop (suc k * 16) room) (ap (λ x. answered k ++ answerBytes x) w ∙ sym (answered-next k d h));
+        answers-are = b ∙ ap (withPart 16 k (answerBytes a)) (done .answers-are) ∙ part-behind 16 k (answered k) (answerBytes a) room m ∙ ap (λ xs. xs ++ drop (suc k * 16) room) (ap (λ x. answered k ++ answerBytes x) w ∙ sym (answered-next k d h));
       }
 
   pub done-end : length site % 32 ≡ 0 → (k : ℕ) (state answers′ : List ℕ) → k ≡ length es → length room ≡ length es * 16 → Done k state answers′ →
@@ -100,9 +87,3 @@ entry-at journal k at h e =
 pub length-journal : (journal : List ℕ) → length (map entryOf (entries journal)) ≡ length journal / 24
 unfolding entries
 length-journal journal = length-map (groups 24 (length journal / 24) journal) entryOf ∙ length-groups 24 (length journal / 24) journal
-
--- A part that was lent for an answer comes back as the answer.
-pub answered-back : (k : ℕ) (b g answers′ : List ℕ) → g ≡ b →
-    take (k * 16) answers′ ++ (g ++ drop (k * 16 + 16 - k * 16) (drop (k * 16) answers′)) ≡ answeredAt k b answers′
-unfolding answeredAt
-answered-back k b g answers′ e = rw (e, group-rest 16 k answers′)

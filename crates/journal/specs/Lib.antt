@@ -1,4 +1,3 @@
 pub mod Places
 pub mod Gather
 pub mod Decide
-pub mod Run

@@ -1,11 +1,11 @@
 -- Records of lent bytes by their places: what is read there, and what a write there leaves.
-use Prim.Native.Nat.{ℕ, _+_, _*_, _/_}
+use Prim.Native.Nat.{ℕ, _/_}
 use mathlib.Core.Path.{_≡_}
-use mathlib.Core.List.{List, [], _++_}
+use mathlib.Core.List.{List, []}
 use mathlib.Core.Bool.{Bool, false, not, _&&_}
 use lib.Dec.{eqb, ltb}
-use lib.ListN.{length, take, drop, getD}
-use Rattle.octets.specs.Octets.{groups}
+use lib.ListN.{length, getD}
+use Rattle.octets.specs.Octets.{groups, withPart}
 use Rattle.model.specs.Words.{if_then_else_}
 use Rattle.model.specs.Numbers as n
 use Rattle.model.specs.Numbers.{NONE}
@@ -26,11 +26,8 @@ unfoldable pub seekPlace : ℕ → ℕ → List ℕ → Place
 seekPlace k i site = if eqb i NONE then Nothing else placeOf k i site
 
 -- The state with the record at a place made `b`.
-unfoldable pub storedAt : ℕ → List ℕ → List ℕ → List ℕ
-storedAt i b state = take (i * n.record-size) state ++ (b ++ drop (i * n.record-size + n.record-size) state)
-
 abbrev pub stored : Place → List ℕ → List ℕ → List ℕ
-stored (At i) b state = if ltb i (length state / n.record-size) then storedAt i b state else state
+stored (At i) b state = if ltb i (length state / n.record-size) then withPart n.record-size i b state else state
 stored Nothing b state = state
 
 -- The same where the flag is set and the instance is not NONE.

@@ -2,8 +2,9 @@
 ghost use mathlib.Core.Path.{_≡_};
 ghost use Prim.Native.Nat.{_/_, _<_};
 ghost use lib.ListN.{length};
+ghost use Rattle.octets.specs.Octets.{withPart};
 ghost use Rattle.model.specs.State.{zoneBytes, pointBytes, credentialBytes};
-ghost use Rattle.journal.specs.Places.{storedAt, written, applied};
+ghost use Rattle.journal.specs.Places.{written, applied};
 use super::Places;
 use model::CountWrite;
 use model::CredentialState;
@@ -12,32 +13,33 @@ use model::Outcome;
 use model::PointState;
 use model::PointWrite;
 use model::numbers;
+use model::numbers::RECORD_SIZE;
 use site::Place;
 
 fn store_count(state: &mut [u8], i: usize, count: u32)
     requires { ⌜ i < length (now state) / 32 ⌝ }
-    ensures { λ _. ⌜ now (state .exit) ≡ storedAt i (zoneBytes count) (now (state .entry)) ⌝ }
+    ensures { λ _. ⌜ now (state .exit) ≡ withPart 32 i (zoneBytes count) (now (state .entry)) ⌝ }
 {
-    let start = i * 32;
-    let end = start + 32;
+    let start = i * RECORD_SIZE;
+    let end = start + RECORD_SIZE;
     records::write_count(&mut state[start..end], count);
 }
 
 fn store_point(state: &mut [u8], i: usize, p: PointState)
     requires { ⌜ i < length (now state) / 32 ⌝ }
-    ensures { λ _. ⌜ now (state .exit) ≡ storedAt i (pointBytes p) (now (state .entry)) ⌝ }
+    ensures { λ _. ⌜ now (state .exit) ≡ withPart 32 i (pointBytes p) (now (state .entry)) ⌝ }
 {
-    let start = i * 32;
-    let end = start + 32;
+    let start = i * RECORD_SIZE;
+    let end = start + RECORD_SIZE;
     records::write_point(&mut state[start..end], p);
 }
 
 fn store_credential(state: &mut [u8], i: usize, c: CredentialState)
     requires { ⌜ i < length (now state) / 32 ⌝ }
-    ensures { λ _. ⌜ now (state .exit) ≡ storedAt i (credentialBytes c) (now (state .entry)) ⌝ }
+    ensures { λ _. ⌜ now (state .exit) ≡ withPart 32 i (credentialBytes c) (now (state .entry)) ⌝ }
 {
-    let start = i * 32;
-    let end = start + 32;
+    let start = i * RECORD_SIZE;
+    let end = start + RECORD_SIZE;
     records::write_credential(&mut state[start..end], c);
 }
 
@@ -49,7 +51,7 @@ fn write_count(state: &mut [u8], w: CountWrite, place: Place)
     }
     match place {
         Place::At(i) => {
-            if i < state.len() / 32 {
+            if i < state.len() / RECORD_SIZE {
                 store_count(state, i, w.count);
             }
         }
@@ -65,7 +67,7 @@ fn write_credential(state: &mut [u8], w: CredentialWrite, place: Place)
     }
     match place {
         Place::At(i) => {
-            if i < state.len() / 32 {
+            if i < state.len() / RECORD_SIZE {
                 let c = w.state;
                 store_credential(state, i, c);
             }
@@ -82,7 +84,7 @@ fn write_point(state: &mut [u8], w: PointWrite, place: Place)
     }
     match place {
         Place::At(i) => {
-            if i < state.len() / 32 {
+            if i < state.len() / RECORD_SIZE {
                 let p = w.state;
                 store_point(state, i, p);
             }

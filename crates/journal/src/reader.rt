@@ -5,6 +5,7 @@ ghost use lib.ListN.{length, take, drop};
 ghost use Rattle.model.specs.Entry.{entryOf};
 use super::Cursor;
 use model::Entry;
+use model::numbers::ENTRY_SIZE;
 
 impl Cursor {
     pub fn start() -> Cursor
@@ -19,7 +20,7 @@ impl Cursor {
         ensures { λ r. ⌜ r ≡ entryOf (take 24 (drop (self .at) (now (journal .entry)))) ⌝ }
     {
         let at = self.at;
-        let end = at + 24;
+        let end = at + ENTRY_SIZE;
         records::entry_of(&journal[at..end])
     }
 
@@ -27,6 +28,8 @@ impl Cursor {
         requires { ⌜ self .at + 24 < 2 ^ 64 ⌝ }
         ensures { λ r. ⌜ r .at ≡ self .at + 24 ⌝ }
     {
-        Cursor { at: self.at + 24 }
+        Cursor {
+            at: self.at + ENTRY_SIZE,
+        }
     }
 }

@@ -1,23 +1,25 @@
 // All entries of a journal, in turn.
 ghost use mathlib.Core.Path.{_≡_};
-ghost use mathlib.Core.List.{map, flatten, _++_};
+ghost use mathlib.Core.List.{map, flatten};
 ghost use Prim.Native.Nat.{_+_, _*_, _/_, _%_, _<_};
-ghost use lib.ListN.{length, take, drop};
+ghost use lib.ListN.{length};
+ghost use Rattle.octets.specs.Octets.{withPart};
 ghost use Rattle.model.specs.State.{panel, stateOf};
 ghost use Rattle.model.specs.Entry.{entryOf, entries, answerBytes};
 ghost use Rattle.model.specs.Step as m;
-ghost use Rattle.journal.specs.Run.{answeredAt};
 use super::Cursor;
 use super::step::step;
 use model::Answer;
+use model::numbers::ANSWER_SIZE;
+use model::numbers::ENTRY_SIZE;
 
 // The k-th answer is written to its own 16 bytes.
 fn put_answer(answers: &mut [u8], k: usize, a: Answer)
     requires { ⌜ k < length (now answers) / 16 ⌝ }
-    ensures { λ _. ⌜ now (answers .exit) ≡ answeredAt k (answerBytes a) (now (answers .entry)) ⌝ }
+    ensures { λ _. ⌜ now (answers .exit) ≡ withPart 16 k (answerBytes a) (now (answers .entry)) ⌝ }
 {
-    let start = k * 16;
-    let end = start + 16;
+    let start = k * ANSWER_SIZE;
+    let end = start + ANSWER_SIZE;
     records::write_answer(&mut answers[start..end], a);
 }
 
@@ -27,7 +29,7 @@ pub fn run(site: &[u8], state: &mut [u8], journal: &[u8], answers: &mut [u8])
     ensures { λ _. ⌜ now (state .exit) ≡ stateOf (m.after (panel (now (site .entry)) (now (state .entry))) (map entryOf (entries (now (journal .entry))))) ⌝ }
     ensures { λ _. ⌜ now (answers .exit) ≡ flatten (map answerBytes (m.answers (panel (now (site .entry)) (now (state .entry))) (map entryOf (entries (now (journal .entry)))))) ⌝ }
 {
-    let n = journal.len() / 24;
+    let n = journal.len() / ENTRY_SIZE;
     let mut c = Cursor::start();
     let mut k = 0;
     while k < n {

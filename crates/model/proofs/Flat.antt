@@ -1,11 +1,11 @@
 -- Site and state as bytes, and as a panel of records: each gives the other back.
-use Prim.Native.Nat.{ℕ, zero, suc, _+_, _*_, _/_, _%_}
+use Prim.Native.Nat.{ℕ, zero, suc, _+_, _*_, _/_, _%_, _<_}
 use native.Mathlib.Omega.{arith}
 use mathlib.Core.Path.{_≡_, refl, sym, _∙_, ap}
 use mathlib.Core.List.{List, [], _∷_, map, map-map, flatten}
 use mathlib.Core.Bool.{Bool, true, false, _&&_}
 use lib.Dec.{eqb}
-use lib.ListN.{length, take, drop, length-append, length-map, length-drop}
+use lib.ListN.{length, take, drop, getD, length-append, length-map, length-drop}
 use lib.Seq.{take-at, drop-at, length-take-le}
 use borrow.Author.Tests.{eqb-true}
 use Rattle.octets.specs.Octets.{groups}
@@ -43,6 +43,13 @@ groups-flatten size (x ∷ xs) h =
     rw (take-at x (flatten xs) size l, drop-at x (flatten xs) size l, groups-flatten size xs (and-right (eqb (length x) size) (Sized size xs) h))
 
 -- ── panels of 32-byte records
+
+-- The i-th pair is the i-th group of the site with the i-th group of the state.
+pub paired-at : (n i : ℕ) (site state : List ℕ) → i < n → getD (paired n site state) i ([], []) ≡ (getD (groups 32 n site) i [], getD (groups 32 n state) i [])
+unfolding paired groups
+paired-at zero i site state h = absurd (omega arith)
+paired-at (suc n) zero site state h = refl
+paired-at (suc n) (suc i) site state h = paired-at n i (drop 32 site) (drop 32 state) (omega arith)
 
 unfoldable pub whole : Pair → Bool
 whole x = eqb (length (x .0)) 32 && eqb (length (x .1)) 32

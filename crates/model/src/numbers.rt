@@ -7,6 +7,17 @@ pub const NEVER: u32 = 4294967295;
 
 pub const UNLIMITED: u16 = 65535;
 
+// Bytes of a record of site or state, of an entry and of an answer; the most bytes of a site and of a journal.
+pub const RECORD_SIZE: usize = 32;
+
+pub const LARGEST_SITE: usize = 64000;
+
+pub const ENTRY_SIZE: usize = 24;
+
+pub const ANSWER_SIZE: usize = 16;
+
+pub const LARGEST_JOURNAL: usize = 65520;
+
 // The largest count, and one above the largest number of four bytes, by which tags turn over.
 pub const LARGEST_COUNT: u32 = 4294967295;
 

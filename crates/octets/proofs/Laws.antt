@@ -9,7 +9,7 @@ use native.Mathlib.Numerals.{add-one, one-add}
 use native.Mathlib.Omega.{arith}
 use lib.Arith.{digits-div, digits-mod, digits-lt, mod-mul}
 use lib.Dec.{lit<, eqb}
-use lib.ListN.{length, take, drop, getD, set, length-append, length-take, length-drop, drop-of-length-le}
+use lib.ListN.{length, take, drop, getD, set, length-append, length-take, drop-of-length-le}
 use lib.Pow.{pow-add}
 use lib.Seq.{length-take-le, drop-drop, take-at, take-take, take-append-le, drop-append-add, set-split, drop-cons, getD-at, getD-take, getD-drop}
 use borrow.Author.Tests.{eq-eqb, eqb-true}
@@ -113,11 +113,6 @@ digits-bytes zero v i h = lit< tt
 digits-bytes (suc w) v zero h = div-lt-iff-lt-mul (pos w) .1 (rw (pow-succ' 256 w) at h)
 digits-bytes (suc w) v (suc i) h = digits-bytes w (v % 256 ^ w) i (mod-lt v (pos w))
 
--- A number put leaves the length as it was.
-pub length-put : (at w v : ℕ) (s : List ℕ) → at + w ≤ length s → length (put at w v s) ≡ length s
-unfolding put
-length-put at w v s h = simp (length-append, length-digits, length-take, length-drop) (omega arith)
-
 -- What stands before a number put is as it was.
 pub take-put : (at w v a : ℕ) (s : List ℕ) → at + w ≤ length s → a ≤ at → take a (put at w v s) ≡ take a s
 unfolding put
@@ -177,14 +172,6 @@ unfolding put digits
 put-one at v s h =
     let l : at < length s = omega arith in
     rw (div-one v, add-one at) (set-split s at v l)
-
--- Numbers put one after the other: the bytes so far, and the rest as it was.
-pub put-next : (at w v : ℕ) (p r : List ℕ) → length p ≡ at → at ≤ length r → put at w v (p ++ drop at r) ≡ (p ++ digits w v) ++ drop (at + w) r
-unfolding put
-put-next at w v p r l h =
-    let n : at + (at + w - at) ≡ at + w = omega arith in
-    let e : drop (at + w) (p ++ drop at r) ≡ drop (at + w) r = past p (drop at r) (at + w) (omega arith) ∙ rw (l, drop-drop (at + w - at) at r, n) in
-    rw (take-at p (drop at r) at l, e) (simp append-assoc)
 
 -- The w elements from `at` on, one by one: what code that reads byte by byte makes.
 unfoldable pub elems : ℕ → ℕ → List ℕ → List ℕ

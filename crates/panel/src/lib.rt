@@ -1,9 +1,10 @@
-// The calls, and their C interface. Every call checks the site anew, and nothing is written before all checks have passed.
+// The calls, on slices. Every call checks the site anew, and nothing is written before all checks have passed.
 ghost use mathlib.Core.Path.{_≡_};
 ghost use Rattle.model.specs.Calls.{number, isWorked, checkSite, freshReturned, freshState, runReturned, runJournal};
 use model::Returned;
-
-const LARGEST_JOURNAL: usize = 65520;
+use model::numbers::ANSWER_SIZE;
+use model::numbers::ENTRY_SIZE;
+use model::numbers::LARGEST_JOURNAL;
 
 // The number of an outcome in document 01, section "Turned back".
 pub fn number_of(r: Returned) -> u32
@@ -70,10 +71,10 @@ fn run_returned(site: &[u8], state: &[u8], journal: &[u8], answers: &[u8]) -> Re
     if !state::well::is_well_formed(site, state) {
         return Returned::StateForm;
     }
-    if (journal.len() % 24 != 0) | (LARGEST_JOURNAL < journal.len()) {
+    if (journal.len() % ENTRY_SIZE != 0) | (LARGEST_JOURNAL < journal.len()) {
         return Returned::JournalLength;
     }
-    if answers.len() != journal.len() / 24 * 16 {
+    if answers.len() != journal.len() / ENTRY_SIZE * ANSWER_SIZE {
         return Returned::AnswersLength;
     }
     Returned::WorkedThrough
@@ -89,31 +90,4 @@ pub fn run_journal(site: &[u8], state: &mut [u8], journal: &[u8], answers: &mut 
     }
     journal::run::run(site, state, journal, answers);
     r
-}
-
-// For C: each call returns the number of its outcome.
-#[no_mangle]
-pub extern "C" fn warblehay_check_site(site: &[u8]) -> u32
-    ensures { λ r. ⌜ r ≡ number (checkSite (now (site .entry))) ⌝ }
-{
-    number_of(check_site(site))
-}
-
-#[no_mangle]
-pub extern "C" fn warblehay_fresh_state(site: &[u8], state: &mut [u8]) -> u32
-    ensures { λ r. ⌜ (r ≡ number (freshState (now (site .entry)) (now (state .entry)) .returned)) × (now (state .exit) ≡ freshState (now (site .entry)) (now (state .entry)) .state) ⌝ }
-{
-    number_of(fresh_state(site, state))
-}
-
-#[no_mangle]
-pub extern "C" fn warblehay_run_journal(
-    site: &[u8],
-    state: &mut [u8],
-    journal: &[u8],
-    answers: &mut [u8],
-) -> u32
-    ensures { λ r. ⌜ (r ≡ number (runJournal (now (site .entry)) (now (state .entry)) (now (journal .entry)) (now (answers .entry)) .returned)) × (now (state .exit) ≡ runJournal (now (site .entry)) (now (state .entry)) (now (journal .entry)) (now (answers .entry)) .state) × (now (answers .exit) ≡ runJournal (now (site .entry)) (now (state .entry)) (now (journal .entry)) (now (answers .entry)) .answers) ⌝ }
-{
-    number_of(run_journal(site, state, journal, answers))
 }

@@ -10,7 +10,7 @@ use lib.Seq.{take-at}
 use Rattle.model.specs.Words.{if_then_else_, zeros}
 use Rattle.model.specs.Calls.{number, isWorked, freshReturned, freshState, runReturned, runJournal}
 use Rattle.model.specs.Print.{digit-zero, line-feed, decimalLine, fromFresh}
-use Rattle.print.proofs.Written.{head-length}
+use Rattle.octets.proofs.Written.{head-length}
 use Rattle.model.specs.declared.Returned.{Returned}
 use Rattle.model.specs.declared.Returned.the-variants.{WorkedThrough, SiteLength, SiteField, SiteTwice, SiteMissing, StateLength, StateForm, JournalLength, AnswersLength}
 

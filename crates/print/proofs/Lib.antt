@@ -1,2 +1,2 @@
-pub mod Written
+pub mod LineEnd
 pub mod Buffers

@@ -5,10 +5,11 @@ ghost use Prim.Native.Nat.{_+_, _*_, _/_, _≤_, _<_};
 ghost use lib.ListN.{length, drop, getD};
 ghost use Rattle.model.specs.Lists.{answersIn};
 ghost use Rattle.model.specs.Print.{digit-zero, hexDigit, hexByte, hexLine, answersText, decimalLine};
-ghost use Rattle.print.specs.Parts.{withPart};
+ghost use Rattle.octets.specs.Octets.{withPart};
 use super::numbers::DIGIT_ZERO;
 use super::numbers::LETTER_BASE;
 use super::numbers::LINE_FEED;
+use model::numbers::ANSWER_SIZE;
 
 pub fn hex_digit(n: u8) -> u8
     requires { ⌜ n < 16 ⌝ }
@@ -46,7 +47,7 @@ pub fn write_hex_line(line: &mut [u8], answer: &[u8])
     ensures { λ _. ⌜ now (line .exit) ≡ hexLine (now (answer .entry)) ⌝ }
 {
     let mut i = 0;
-    while i < 16 {
+    while i < ANSWER_SIZE {
         write_hex_at(line, i, answer[i]);
         i += 1;
     }
@@ -60,8 +61,8 @@ fn write_line_at(text: &mut [u8], k: usize, answers: &[u8])
 {
     let start = k * 33;
     let end = start + 33;
-    let from = k * 16;
-    let to = from + 16;
+    let from = k * ANSWER_SIZE;
+    let to = from + ANSWER_SIZE;
     write_hex_line(&mut text[start..end], &answers[from..to]);
 }
 
@@ -71,7 +72,7 @@ pub fn write_answers(answers: &[u8], text: &mut [u8]) -> usize
     ensures { λ r. ⌜ now (text .exit) ≡ answersText (now (answers .entry)) ++ drop r (now (text .entry)) ⌝ }
     ensures { λ r. ⌜ r ≡ length (now (answers .entry)) / 16 * 33 ⌝ }
 {
-    let n = answers.len() / 16;
+    let n = answers.len() / ANSWER_SIZE;
     let mut k = 0;
     while k < n {
         write_line_at(text, k, answers);

@@ -5,16 +5,20 @@ ghost use lib.ListN.{length};
 ghost use Rattle.io.specs.Counts.{Counts};
 use libc::STDERR_FILENO;
 use libc::STDOUT_FILENO;
+use model::numbers::ANSWER_SIZE;
+use model::numbers::ENTRY_SIZE;
+use model::numbers::LARGEST_JOURNAL;
+use model::numbers::LARGEST_SITE;
 
 // A byte more than the largest file that is worked through: a larger one fills its buffer, and is turned back by its length.
-const SITE_ROOM: usize = 64000 + 1;
+const SITE_ROOM: usize = LARGEST_SITE + 1;
 
-const JOURNAL_ROOM: usize = 65520 + 1;
+const JOURNAL_ROOM: usize = LARGEST_JOURNAL + 1;
 
 // An answer and a line for each entry.
-const ANSWERS_ROOM: usize = JOURNAL_ROOM / 24 * 16;
+const ANSWERS_ROOM: usize = JOURNAL_ROOM / ENTRY_SIZE * ANSWER_SIZE;
 
-const TEXT_ROOM: usize = JOURNAL_ROOM / 24 * 33;
+const TEXT_ROOM: usize = JOURNAL_ROOM / ENTRY_SIZE * 33;
 
 // What was read of a file: how many bytes, and whether they are all of it, or all that there is room for.
 struct Reading {
@@ -80,7 +84,7 @@ fn print_bytes(site: &[u8], journal: &[u8], state: &mut [u8], answers: &mut [u8]
     requires { ⌜ (length (now journal) / 24 * 33 ≤ length (now text)) × (3 ≤ length (now text)) ⌝ }
 {
     let n = site.len();
-    let k = journal.len() / 24 * 16;
+    let k = journal.len() / ENTRY_SIZE * ANSWER_SIZE;
     let r = print::print_journal(site, journal, &mut state[..n], &mut answers[..k], text);
     if !io::write_all(STDOUT_FILENO, &text[..r]) {
         os::fail(b"standard output");

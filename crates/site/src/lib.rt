@@ -1,6 +1,8 @@
 // The check of a site file, and the lookups in it.
 pub mod lookup; // lookup.rt: the record that a number names, and its place
-pub mod range; // range.rt: whether the fields of a record are in range
+pub mod range; // range.rt: whether a field is out of range
+pub mod twins; // twins.rt: whether the same is there twice
+pub mod names; // names.rt: whether a named object is missing
 pub mod check; // check.rt: whether a site is turned back
 
 // Instances are numbered per object type, so that zone 7 is never credential 7: a number of each type is a type of its own.

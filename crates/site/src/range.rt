@@ -1,10 +1,14 @@
-// Whether the fields of a record are in range (refusal 2). Each function takes the record's 32 bytes.
+// Whether a field of a site is out of range (refusal 2).
 ghost use mathlib.Core.Path.{_≡_};
+ghost use mathlib.Core.Bool.{not};
 ghost use Prim.Native.Nat.{_+_, _≤_};
 ghost use lib.ListN.{length};
-ghost use Rattle.model.specs.Site.{everywhere};
+ghost use Rattle.model.specs.Words.{all};
+ghost use Rattle.model.specs.Site.{everywhere, records};
 ghost use Rattle.model.specs.Accept.{clear, zoneInRange, pointInRange, ruleInRange, credentialInRange, factorInRange, inRange};
 ghost use Rattle.site.specs.Parts.{locationInRange};
+use super::lookup::record_at;
+use super::lookup::record_count;
 use model::numbers::ACCESS_CREDENTIAL;
 use model::numbers::ACCESS_POINT;
 use model::numbers::ACCESS_RULE;
@@ -119,7 +123,7 @@ fn factor_in_range(part: &[u8]) -> bool
         & is_clear(part, 24, 8)
 }
 
-pub fn in_range(part: &[u8]) -> bool
+fn in_range(part: &[u8]) -> bool
     requires { ⌜ length (now part) ≡ 32 ⌝ }
     ensures { λ r. ⌜ r ≡ inRange (now (part .entry)) ⌝ }
 {
@@ -134,4 +138,19 @@ pub fn in_range(part: &[u8]) -> bool
         AUTHENTICATION_FACTOR => factor_in_range(part),
         _ => false,
     }
+}
+
+pub fn is_refused(site: &[u8]) -> bool
+    ensures { λ r. ⌜ r ≡ not (all inRange (records (now (site .entry)))) ⌝ }
+{
+    let n = record_count(site);
+    let mut i = 0;
+    while i < n {
+        let inside = in_range(record_at(site, i));
+        i += 1;
+        if !inside {
+            return true;
+        }
+    }
+    false
 }

@@ -4,7 +4,6 @@ use Prim.Native.Nat.{ℕ, zero, suc, _+_, _/_, _≤_, _<_}
 use mathlib.Core.Path.{_≡_, refl, ap}
 use mathlib.Core.List.{List, []}
 use mathlib.Core.Bool.{Bool, true, _&&_}
-use native.Mathlib.Nat.{not-suc-le-zero, le-of-suc-le-suc}
 use native.Mathlib.Numerals.{add-one}
 use native.Mathlib.Omega.{arith}
 use lib.ListN.{length, getD, drop, drop-of-length-le}
@@ -12,17 +11,12 @@ use lib.Seq.{drop-cons}
 use Rattle.octets.specs.Octets.{groups}
 use Rattle.model.specs.Words.{all}
 use Rattle.model.specs.State.{Pair, paired, panel}
+use Rattle.model.proofs.Flat.{paired-at}
 
 length-paired : (n : ℕ) (site state : List ℕ) → length (paired n site state) ≡ n
 unfolding paired
 length-paired zero site state = refl
 length-paired (suc n) site state = ap suc (length-paired n (drop 32 site) (drop 32 state))
-
-paired-at : (n i : ℕ) (site state : List ℕ) → i < n → getD (paired n site state) i ([], []) ≡ (getD (groups 32 n site) i [], getD (groups 32 n state) i [])
-unfolding paired groups
-paired-at zero i site state h = absurd (not-suc-le-zero h)
-paired-at (suc n) zero site state h = refl
-paired-at (suc n) (suc i) site state h = paired-at n i (drop 32 site) (drop 32 state) (le-of-suc-le-suc h)
 
 -- A panel has a pair for each site record.
 pub length-panel : (site state : List ℕ) → length (panel site state) ≡ length site / 32

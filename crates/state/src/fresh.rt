@@ -1,8 +1,8 @@
 // The fresh state of a site: a state record for each site record, in file order.
 ghost use mathlib.Core.Path.{_≡_};
-ghost use mathlib.Core.List.{_++_};
 ghost use Prim.Native.Nat.{_+_, _*_, _/_, _%_, _<_};
-ghost use lib.ListN.{length, take, drop};
+ghost use lib.ListN.{length};
+ghost use Rattle.octets.specs.Octets.{withPart};
 ghost use Rattle.model.specs.State.{freshPoint, freshCredential, freshRecord, fresh};
 use model::CredentialState;
 use model::PointState;
@@ -10,6 +10,7 @@ use model::numbers::ACCESS_CREDENTIAL;
 use model::numbers::ACCESS_POINT;
 use model::numbers::NEVER;
 use model::numbers::NONE;
+use model::numbers::RECORD_SIZE;
 
 fn fresh_point() -> PointState
     ensures { λ r. ⌜ r ≡ freshPoint ⌝ }
@@ -57,10 +58,10 @@ fn write_fresh(part: &mut [u8], s: &[u8])
 // The i-th state record, of the site record s.
 fn write_fresh_at(state: &mut [u8], i: usize, s: &[u8])
     requires { ⌜ (i < length (now state) / 32) × (length (now s) ≡ 32) ⌝ }
-    ensures { λ _. ⌜ now (state .exit) ≡ take (i * 32) (now (state .entry)) ++ (freshRecord (now (s .entry)) ++ drop (i * 32 + 32) (now (state .entry))) ⌝ }
+    ensures { λ _. ⌜ now (state .exit) ≡ withPart 32 i (freshRecord (now (s .entry))) (now (state .entry)) ⌝ }
 {
-    let start = i * 32;
-    let end = start + 32;
+    let start = i * RECORD_SIZE;
+    let end = start + RECORD_SIZE;
     write_fresh(&mut state[start..end], s);
 }
 

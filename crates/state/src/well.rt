@@ -9,7 +9,7 @@ use model::numbers::ACCESS_POINT;
 use model::numbers::ACCESS_ZONE;
 use model::numbers::LARGEST_DISABLE;
 use model::numbers::NONE;
-use site::check::none_or_exists;
+use site::names::none_or_exists;
 use site::range::is_clear;
 
 fn zone_well(t: &[u8]) -> bool

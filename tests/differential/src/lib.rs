@@ -1,7 +1,7 @@
 //! The proved engine beside the `reference` crate: its calls, the comparison of one call through
 //! both engines, and what the tests share.
 //!
-//! At the repository's root, `rt staticlib panel` writes the library that is linked here and
+//! At the repository's root, `bash library/build` writes the library that is linked here and
 //! `rt check` the printing program. Then:
 //!
 //! ```text

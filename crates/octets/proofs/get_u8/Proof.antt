@@ -6,11 +6,8 @@ use borrow.Author.Needs.{needs}
 use Rattle.octets.proofs.get_u8.Statement.{statement}
 use Rattle.octets.proofs.get_u8.Tie as tie
 
-shared-slice-read-result : tie.Need-shared-slice-read-result
-shared-slice-read-result c = search needs
-
 returns : tie.Need-returns
 returns c = let a = c .before .args in sym (field-one (a .at) (now (a .part)))
 
 pub get-u8-spec : {M : Type 1} → statement M
-get-u8-spec = tie.close (tie.spec shared-slice-read-result returns)
+get-u8-spec = tie.close (tie.spec (λ c. search needs) returns)

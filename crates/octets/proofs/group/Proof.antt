@@ -9,21 +9,6 @@ use borrow.Author.Needs.{needs}
 use Rattle.octets.proofs.group.Statement.{statement}
 use Rattle.octets.proofs.group.Tie as tie
 
-mul-start : tie.Need-mul-start
-mul-start c = search needs
-
-add-end : tie.Need-add-end
-add-end c = search needs
-
-sub-result : tie.Need-sub-result
-sub-result c = search needs
-
-part-result-start : tie.Need-part-result-start
-part-result-start c = search needs
-
-part-result-end : tie.Need-part-result-end
-part-result-end c = search needs
-
 returns : tie.Need-returns
 returns c =
     let a = c .before .args in
@@ -33,4 +18,4 @@ returns c =
 
 pub group-spec : {M : Type 1} → statement M
 group-spec =
-    tie.close (tie.spec mul-start add-end sub-result part-result-start part-result-end returns)
+    tie.close (tie.spec (λ c. search needs) (λ c. search needs) (λ c. search needs) (λ c. search needs) (λ c. search needs) returns)

@@ -6,14 +6,8 @@ use borrow.Author.Needs.{needs}
 use Rattle.octets.proofs.put_u8.Statement.{statement}
 use Rattle.octets.proofs.put_u8.Tie as tie
 
-slice-write-part : tie.Need-slice-write-part
-slice-write-part c = search needs
-
-same-length : tie.Need-same-length
-same-length c = search needs
-
 returns : tie.Need-returns
 returns c = let a = c .args in put-one (a .at) (a .value) (now (a .part)) (omega arith)
 
 pub put-u8-spec : {M : Type 1} → statement M
-put-u8-spec = tie.close (tie.spec slice-write-part same-length returns)
+put-u8-spec = tie.close (tie.spec (λ c. search needs) (λ c. search needs) returns)

@@ -7,24 +7,12 @@ use borrow.Author.Needs.{needs}
 use Rattle.panel.proofs.fresh_state.Statement.{statement}
 use Rattle.panel.proofs.fresh_state.Tie as tie
 
-fresh-returned-requires : tie.Need-fresh-returned-requires
-fresh-returned-requires c κs = search needs
-
-is-worked-requires : tie.Need-is-worked-requires
-is-worked-requires c κs = search needs
-
-same-length : tie.Need-same-length
-same-length c = search needs
-
 returns : tie.Need-returns
 unfolding freshState
 returns c = (c .before .before .fresh-returned .ensures, rw (ap isWorked (sym (c .before .before .fresh-returned .ensures)) ∙ sym (c .before .is-worked .ensures) ∙ not-true _ (c .if1 .taken)))
 
 write-fresh-state-requires : tie.Need-write-fresh-state-requires
 write-fresh-state-requires c κs = let a = c .before .before .before .before .before .before .before .args in lengths (now (a .site)) (now (a .state)) (ap isWorked (sym (c .before .before .before .fresh-returned .ensures)) ∙ sym (c .before .before .is-worked .ensures) ∙ not-false _ (c .before .if1 .left))
-
-same-length-2 : tie.Need-same-length-2
-same-length-2 c = search needs
 
 returns-2 : tie.Need-returns-2
 unfolding freshState
@@ -34,10 +22,8 @@ pub fresh-state-spec : {M : Type 1} → statement M
 fresh-state-spec =
     tie.close
     (tie.spec
-    fresh-returned-requires
-    is-worked-requires
-    same-length
+    (λ c κs. search needs) (λ c κs. search needs) (λ c. search needs)
     returns
     write-fresh-state-requires
-    same-length-2
+    (λ c. search needs)
     returns-2)

@@ -3,12 +3,9 @@ use borrow.Author.Needs.{needs}
 use Rattle.panel.proofs.is_worked.Statement.{statement}
 use Rattle.panel.proofs.is_worked.Tie as tie
 
-number-of-requires : tie.Need-number-of-requires
-number-of-requires c κs = search needs
-
 returns : tie.Need-returns
 unfolding isWorked
 returns c = rw (c .number-of .ensures)
 
 pub is-worked-spec : {M : Type 1} → statement M
-is-worked-spec = tie.close (tie.spec number-of-requires returns)
+is-worked-spec = tie.close (tie.spec (λ c κs. search needs) returns)

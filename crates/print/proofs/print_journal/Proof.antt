@@ -12,24 +12,6 @@ use Rattle.print.proofs.Buffers.{number-short, line-short, at-head}
 use Rattle.print.proofs.print_journal.Statement.{statement}
 use Rattle.print.proofs.print_journal.Tie as tie
 
-run-from-fresh-requires : tie.Need-run-from-fresh-requires
-run-from-fresh-requires c κs = search needs
-
-is-worked-requires : tie.Need-is-worked-requires
-is-worked-requires c κs = search needs
-
-write-answers-requires : tie.Need-write-answers-requires
-write-answers-requires c κs = search needs
-
-same-length : tie.Need-same-length
-same-length c = search needs
-
-same-length-2 : tie.Need-same-length-2
-same-length-2 c = search needs
-
-same-length-3 : tie.Need-same-length-3
-same-length-3 c = search needs
-
 returns : tie.Need-returns
 unfolding printJournal
 returns c =
@@ -44,20 +26,8 @@ returns c =
     let p = at-head (w .result) _ (now (a .text)) (w .last .1 .0) f (w .kept .1 .0) (w .ensures .0) in
     (p .0, p .1 ∙ e)
 
-number-of-requires : tie.Need-number-of-requires
-number-of-requires c κs = search needs
-
 write-decimal-line-requires : tie.Need-write-decimal-line-requires
 write-decimal-line-requires c κs = omega (arith, c .number-of .ensures, number-short (c .before .before .before .before .before .before .before .before .run-from-fresh .result))
-
-same-length-4 : tie.Need-same-length-4
-same-length-4 c = search needs
-
-same-length-5 : tie.Need-same-length-5
-same-length-5 c = search needs
-
-same-length-6 : tie.Need-same-length-6
-same-length-6 c = search needs
 
 returns-2 : tie.Need-returns-2
 unfolding printJournal
@@ -77,16 +47,10 @@ pub print-journal-spec : {M : Type 1} → statement M
 print-journal-spec =
     tie.close
     (tie.spec
-    run-from-fresh-requires
-    is-worked-requires
-    write-answers-requires
-    same-length
-    same-length-2
-    same-length-3
+    (λ c κs. search needs) (λ c κs. search needs) (λ c κs. search needs) (λ c. search needs) (λ c. search needs)
+    (λ c. search needs)
     returns
-    number-of-requires
+    (λ c κs. search needs)
     write-decimal-line-requires
-    same-length-4
-    same-length-5
-    same-length-6
+    (λ c. search needs) (λ c. search needs) (λ c. search needs)
     returns-2)

@@ -4,18 +4,6 @@ use Rattle.print.proofs.Buffers.{from-fresh}
 use Rattle.print.proofs.run_from_fresh.Statement.{statement}
 use Rattle.print.proofs.run_from_fresh.Tie as tie
 
-fresh-state-requires : tie.Need-fresh-state-requires
-fresh-state-requires c κs = search needs
-
-run-journal-requires : tie.Need-run-journal-requires
-run-journal-requires c κs = search needs
-
-same-length : tie.Need-same-length
-same-length c = search needs
-
-same-length-2 : tie.Need-same-length-2
-same-length-2 c = search needs
-
 returns : tie.Need-returns
 returns c =
     let start = c .before .before .before .before .before .before .before .before .before .before .before .before .before .before .before in
@@ -28,4 +16,4 @@ returns c =
 pub run-from-fresh-spec : {M : Type 1} → statement M
 run-from-fresh-spec =
     tie.close
-    (tie.spec fresh-state-requires run-journal-requires same-length same-length-2 returns)
+    (tie.spec (λ c κs. search needs) (λ c κs. search needs) (λ c. search needs) (λ c. search needs) returns)

@@ -19,23 +19,11 @@ abbrev μ-loop : tie.MeasureT-loop
 loop-holds : tie.Need-loop-holds Inv-loop μ-loop
 loop-holds c = (omega arith, c .pre, refl)
 
-slice-write-part : tie.Need-slice-write-part Inv-loop μ-loop
-slice-write-part c = search needs
-
-add-i : tie.Need-add-i Inv-loop μ-loop
-add-i c = search needs
-
-loop-less : tie.Need-loop-less Inv-loop μ-loop
-loop-less c = search needs
-
 loop-again : tie.Need-loop-again Inv-loop μ-loop
 loop-again c =
     let l = c .before .loop in
     let h : l .i < length (l .part) = omega arith in
     (omega arith, length-set (l .part) (l .i) 0 ∙ l .inv .1, zeros-step (l .i) (l .part) h (l .inv .2))
-
-same-length : tie.Need-same-length Inv-loop μ-loop
-same-length c = search needs
 
 returns : tie.Need-returns Inv-loop μ-loop
 returns c =
@@ -50,9 +38,7 @@ write-zeros-spec =
     Inv-loop
     μ-loop
     loop-holds
-    slice-write-part
-    add-i
-    loop-less
+    (λ c. search needs) (λ c. search needs) (λ c. search needs)
     loop-again
-    same-length
+    (λ c. search needs)
     returns)

@@ -26,24 +26,9 @@ Inv-loop site first second point to time n v₀ i₀ v i =
 abbrev μ-loop : tie.MeasureT-loop
 μ-loop site first second point to time n v₀ i₀ v i = n - i
 
-group-count-requires : tie.Need-group-count-requires Inv-loop μ-loop
-group-count-requires c κs = search needs
-
 loop-holds : tie.Need-loop-holds Inv-loop μ-loop
 unfolding both
 loop-holds c = refl
-
-group-requires : tie.Need-group-requires Inv-loop μ-loop
-group-requires c κs = search needs
-
-with-record-requires : tie.Need-with-record-requires Inv-loop μ-loop
-with-record-requires c κs = search needs
-
-add-i : tie.Need-add-i Inv-loop μ-loop
-add-i c = search needs
-
-loop-less : tie.Need-loop-less Inv-loop μ-loop
-loop-less c = search needs
 
 loop-again : tie.Need-loop-again Inv-loop μ-loop
 unfolding records
@@ -69,11 +54,8 @@ verdict-of-spec =
     (tie.spec
     Inv-loop
     μ-loop
-    group-count-requires
+    (λ c κs. search needs)
     loop-holds
-    group-requires
-    with-record-requires
-    add-i
-    loop-less
+    (λ c κs. search needs) (λ c κs. search needs) (λ c. search needs) (λ c. search needs)
     loop-again
     returns)

@@ -12,8 +12,7 @@ adjusted-by-spec =
     (tie.spec
     (λ c. search needs)
     (λ c. rw (le-leb _ _ (c .before .if1 .taken)) (omega arith))
-    (λ c. search needs)
-    (λ c. search needs)
+    (λ c. search needs) (λ c. search needs)
     (λ c. rw (le-leb _ _ (c .before .if1 .taken)))
     (λ c. search needs)
     (λ c. rw (lt-leb _ _ (c .if1 .left))))

@@ -11,18 +11,6 @@ use borrow.Author.Needs.{needs}
 use Rattle.journal.proofs.decide.decide.Statement.{statement}
 use Rattle.journal.proofs.decide.decide.Tie as tie
 
-operation-of-requires : tie.Need-operation-of-requires
-operation-of-requires c κs = search needs
-
-in-form-requires : tie.Need-in-form-requires
-in-form-requires c κs = search needs
-
-refuse-requires : tie.Need-refuse-requires
-refuse-requires c κs = search needs
-
-at-object-requires : tie.Need-at-object-requires
-at-object-requires c κs = search needs
-
 returns : tie.Need-returns
 returns c =
     let s = c .before .before .before .before .before .before .before in
@@ -30,30 +18,12 @@ returns c =
     decided-refused (now (a .site)) n.refused-form Nothing _ _ (c .at-object .ensures ∙ ap (λ o. atObject o Nothing) (c .before .refuse .ensures))
     (entry-form (now (a .site)) (now (a .state)) (s .pre .0) (s .pre .1) (a .e) (ap (λ o. inForm o (a .e)) (sym (c .before .before .before .before .operation-of .ensures)) ∙ sym (c .before .before .before .in-form .ensures) ∙ not-true _ (c .before .before .if1 .taken)))
 
-object-kind-requires : tie.Need-object-kind-requires
-object-kind-requires c κs = search needs
-
-place-of-requires : tie.Need-place-of-requires
-place-of-requires c κs = search needs
-
-enum-known-place : tie.Need-enum-known-place
-enum-known-place c = search needs
-
 worked-requires : tie.Need-worked-requires
 worked-requires c κs =
     let s = c .before .before .before .before .before .before .before .before .before .before in
     let a = s .args in
     let p : c .before .before .before .place-of .result ≡ At (c .before .place .given .0 .0) = cc in
     (s .pre, sym p ∙ c .before .before .before .place-of .ensures ∙ ap (λ k. placeOf k (a .e .instance) (now (a .site))) (c .before .before .before .before .object-kind .ensures))
-
-enum-told : tie.Need-enum-told
-enum-told c = search needs
-
-refuse-requires-2 : tie.Need-refuse-requires-2
-refuse-requires-2 c κs = search needs
-
-at-object-requires-2 : tie.Need-at-object-requires-2
-at-object-requires-2 c κs = search needs
 
 returns-2 : tie.Need-returns-2
 returns-2 c =
@@ -75,17 +45,10 @@ pub decide-spec : {M : Type 1} → statement M
 decide-spec =
     tie.close
     (tie.spec
-    operation-of-requires
-    in-form-requires
-    refuse-requires
-    at-object-requires
+    (λ c κs. search needs) (λ c κs. search needs) (λ c κs. search needs) (λ c κs. search needs)
     returns
-    object-kind-requires
-    place-of-requires
-    enum-known-place
+    (λ c κs. search needs) (λ c κs. search needs) (λ c. search needs)
     worked-requires
-    enum-told
-    refuse-requires-2
-    at-object-requires-2
+    (λ c. search needs) (λ c κs. search needs) (λ c κs. search needs)
     returns-2
     returns-3)

@@ -12,27 +12,6 @@ use borrow.Author.Needs.{needs}
 use Rattle.journal.proofs.decide.factor_decided.Statement.{statement}
 use Rattle.journal.proofs.decide.factor_decided.Tie as tie
 
-part-at-requires : tie.Need-part-at-requires
-part-at-requires c κs = search needs
-
-point-of-requires : tie.Need-point-of-requires
-point-of-requires c κs = search needs
-
-part-at-requires-2 : tie.Need-part-at-requires-2
-part-at-requires-2 c κs = search needs
-
-point-state-of-requires : tie.Need-point-state-of-requires
-point-state-of-requires c κs = search needs
-
-count-to-requires : tie.Need-count-to-requires
-count-to-requires c κs = search needs
-
-out-of-service-outcome-requires : tie.Need-out-of-service-outcome-requires
-out-of-service-outcome-requires c κs = search needs
-
-at-object-requires : tie.Need-at-object-requires
-at-object-requires c κs = search needs
-
 returns : tie.Need-returns
 returns c =
     let s = c .before .before .before .before .before .before .before .before .before .before in
@@ -45,15 +24,6 @@ returns c =
     ∙ ap₂ (λ tag counted. unchanged (noAnswer n.not-refused tag counted))
     (ap (λ (p : PointState). p .tag) (c .before .before .before .point-state-of .ensures ∙ ap pointStateOf (c .before .before .before .before .part-at2 .ensures .0)))
     (c .before .before .count-to .ensures)))
-
-gather-requires : tie.Need-gather-requires
-gather-requires c κs = search needs
-
-rules-for-requires : tie.Need-rules-for-requires
-rules-for-requires c κs = search needs
-
-factor-outcome-requires : tie.Need-factor-outcome-requires
-factor-outcome-requires c κs = search needs
 
 returns-2 : tie.Need-returns-2
 returns-2 c =
@@ -68,15 +38,8 @@ pub factor-decided-spec : {M : Type 1} → statement M
 factor-decided-spec =
     tie.close
     (tie.spec
-    part-at-requires
-    point-of-requires
-    part-at-requires-2
-    point-state-of-requires
-    count-to-requires
-    out-of-service-outcome-requires
-    at-object-requires
+    (λ c κs. search needs) (λ c κs. search needs) (λ c κs. search needs) (λ c κs. search needs) (λ c κs. search needs)
+    (λ c κs. search needs) (λ c κs. search needs)
     returns
-    gather-requires
-    rules-for-requires
-    factor-outcome-requires
+    (λ c κs. search needs) (λ c κs. search needs) (λ c κs. search needs)
     returns-2)

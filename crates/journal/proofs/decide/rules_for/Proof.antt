@@ -6,17 +6,8 @@ use borrow.Author.Needs.{needs}
 use Rattle.journal.proofs.decide.rules_for.Statement.{statement}
 use Rattle.journal.proofs.decide.rules_for.Tie as tie
 
-asks-rules-requires : tie.Need-asks-rules-requires
-asks-rules-requires c κs = search needs
-
-no-verdict-requires : tie.Need-no-verdict-requires
-no-verdict-requires c κs = search needs
-
 returns : tie.Need-returns
 returns c = let a = c .before .before .before .before .args in rules-unasked (a .v) (a .e) _ _ (sym (c .before .before .asks-rules .ensures) ∙ not-true _ (c .before .if1 .taken))
-
-verdict-of-requires : tie.Need-verdict-of-requires
-verdict-of-requires c κs = search needs
 
 returns-2 : tie.Need-returns-2
 returns-2 c = let a = c .before .before .before .before .args in ap (λ r. eventOf (a .v) r (a .e)) (c .verdict-of .ensures)
@@ -24,4 +15,4 @@ returns-2 c = let a = c .before .before .before .before .args in ap (λ r. event
 pub rules-for-spec : {M : Type 1} → statement M
 rules-for-spec =
     tie.close
-    (tie.spec asks-rules-requires no-verdict-requires returns verdict-of-requires returns-2)
+    (tie.spec (λ c κs. search needs) (λ c κs. search needs) returns (λ c κs. search needs) returns-2)

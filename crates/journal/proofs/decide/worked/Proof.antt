@@ -11,81 +11,12 @@ use borrow.Author.Needs.{needs}
 use Rattle.journal.proofs.decide.worked.Statement.{statement}
 use Rattle.journal.proofs.decide.worked.Tie as tie
 
-enum-told : tie.Need-enum-told
-enum-told c = search needs
-
 factor-decided-requires : tie.Need-factor-decided-requires
 factor-decided-requires c κs =
     let s = c .before .before .before .before in
     let a = s .args in
     let o : a .o ≡ Factor = cc in
     (s .pre .0, rw o at (s .pre .1))
-
-enum-told-2 : tie.Need-enum-told-2
-enum-told-2 c = search needs
-
-count-outcome-requires : tie.Need-count-outcome-requires
-count-outcome-requires c κs = search needs
-
-at-object-requires : tie.Need-at-object-requires
-at-object-requires c κs = search needs
-
-enum-told-3 : tie.Need-enum-told-3
-enum-told-3 c = search needs
-
-part-at-requires : tie.Need-part-at-requires
-part-at-requires c κs = search needs
-
-count-of-requires : tie.Need-count-of-requires
-count-of-requires c κs = search needs
-
-adjust-outcome-requires : tie.Need-adjust-outcome-requires
-adjust-outcome-requires c κs = search needs
-
-at-object-requires-2 : tie.Need-at-object-requires-2
-at-object-requires-2 c κs = search needs
-
-enum-told-4 : tie.Need-enum-told-4
-enum-told-4 c = search needs
-
-part-at-requires-2 : tie.Need-part-at-requires-2
-part-at-requires-2 c κs = search needs
-
-credential-state-of-requires : tie.Need-credential-state-of-requires
-credential-state-of-requires c κs = search needs
-
-disable-outcome-requires : tie.Need-disable-outcome-requires
-disable-outcome-requires c κs = search needs
-
-at-object-requires-3 : tie.Need-at-object-requires-3
-at-object-requires-3 c κs = search needs
-
-enum-told-5 : tie.Need-enum-told-5
-enum-told-5 c = search needs
-
-part-at-requires-3 : tie.Need-part-at-requires-3
-part-at-requires-3 c κs = search needs
-
-point-state-of-requires : tie.Need-point-state-of-requires
-point-state-of-requires c κs = search needs
-
-count-to-requires : tie.Need-count-to-requires
-count-to-requires c κs = search needs
-
-service-outcome-requires : tie.Need-service-outcome-requires
-service-outcome-requires c κs = search needs
-
-at-object-requires-4 : tie.Need-at-object-requires-4
-at-object-requires-4 c κs = search needs
-
-enum-told-6 : tie.Need-enum-told-6
-enum-told-6 c = search needs
-
-refuse-requires : tie.Need-refuse-requires
-refuse-requires c κs = search needs
-
-at-object-requires-5 : tie.Need-at-object-requires-5
-at-object-requires-5 c κs = search needs
 
 returns : tie.Need-returns
 returns c =
@@ -133,30 +64,13 @@ pub worked-spec : {M : Type 1} → statement M
 worked-spec =
     tie.close
     (tie.spec
-    enum-told
+    (λ c. search needs)
     factor-decided-requires
-    enum-told-2
-    count-outcome-requires
-    at-object-requires
-    enum-told-3
-    part-at-requires
-    count-of-requires
-    adjust-outcome-requires
-    at-object-requires-2
-    enum-told-4
-    part-at-requires-2
-    credential-state-of-requires
-    disable-outcome-requires
-    at-object-requires-3
-    enum-told-5
-    part-at-requires-3
-    point-state-of-requires
-    count-to-requires
-    service-outcome-requires
-    at-object-requires-4
-    enum-told-6
-    refuse-requires
-    at-object-requires-5
+    (λ c. search needs) (λ c κs. search needs) (λ c κs. search needs) (λ c. search needs) (λ c κs. search needs)
+    (λ c κs. search needs) (λ c κs. search needs) (λ c κs. search needs) (λ c. search needs) (λ c κs. search needs)
+    (λ c κs. search needs) (λ c κs. search needs) (λ c κs. search needs) (λ c. search needs) (λ c κs. search needs)
+    (λ c κs. search needs) (λ c κs. search needs) (λ c κs. search needs) (λ c κs. search needs) (λ c. search needs)
+    (λ c κs. search needs) (λ c κs. search needs)
     returns
     returns-2
     returns-3

@@ -11,15 +11,9 @@ returns : tie.Need-returns
 unfolding credentialRead
 returns c = rw (ne-eqb _ _ (c .if1 .taken))
 
-is-found-requires : tie.Need-is-found-requires
-is-found-requires c κs = search needs
-
 returns-2 : tie.Need-returns-2
 unfolding credentialRead
 returns-2 c = rw (eq-eqb _ _ (c .before .before .if1 .left), not-false (missing (now (c .before .before .before .before .args .factor))) (sym (c .before .is-found .ensures) ∙ not-true _ (c .if2 .taken)))
-
-instance-of-requires : tie.Need-instance-of-requires
-instance-of-requires c κs = search needs
 
 returns-3 : tie.Need-returns-3
 unfolding credentialRead
@@ -27,4 +21,4 @@ returns-3 c = rw (eq-eqb _ _ (c .before .before .before .if1 .left), not-true (m
 
 pub credential-read-spec : {M : Type 1} → statement M
 credential-read-spec =
-    tie.close (tie.spec returns is-found-requires returns-2 instance-of-requires returns-3)
+    tie.close (tie.spec returns (λ c κs. search needs) returns-2 (λ c κs. search needs) returns-3)

@@ -7,15 +7,9 @@ use borrow.Author.Needs.{needs}
 use Rattle.journal.proofs.gather.factor_for.Statement.{statement}
 use Rattle.journal.proofs.gather.factor_for.Tie as tie
 
-find-identifying-requires : tie.Need-find-identifying-requires
-find-identifying-requires c κs = search needs
-
 returns : tie.Need-returns
 unfolding factorFor
 returns c = let a = c .before .before .before .before .args in rw (c .find-identifying .ensures, eq-eqb _ _ (c .before .if1 .taken)) (refl, found-whole (identifying (a .e .argument) (a .e .value)) (now (a .site)))
-
-find-confirming-requires : tie.Need-find-confirming-requires
-find-confirming-requires c κs = search needs
 
 returns-2 : tie.Need-returns-2
 unfolding factorFor
@@ -23,4 +17,4 @@ returns-2 c = let a = c .before .before .before .before .args in rw (c .find-con
 
 pub factor-for-spec : {M : Type 1} → statement M
 factor-for-spec =
-    tie.close (tie.spec find-identifying-requires returns find-confirming-requires returns-2)
+    tie.close (tie.spec (λ c κs. search needs) returns (λ c κs. search needs) returns-2)

@@ -8,12 +8,9 @@ returns : tie.Need-returns
 unfolding seekPlace
 returns c = rw (eq-eqb _ _ (c .if1 .taken))
 
-place-of-requires : tie.Need-place-of-requires
-place-of-requires c κs = search needs
-
 returns-2 : tie.Need-returns-2
 unfolding seekPlace
 returns-2 c = rw (ne-eqb _ _ (c .before .if1 .left)) (c .place-of .ensures)
 
 pub seek-place-spec : {M : Type 1} → statement M
-seek-place-spec = tie.close (tie.spec returns place-of-requires returns-2)
+seek-place-spec = tie.close (tie.spec returns (λ c κs. search needs) returns-2)

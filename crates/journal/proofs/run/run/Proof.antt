@@ -20,25 +20,16 @@ Inv-loop site state₀ journal answers₀ n c₀ k₀ state answers c k =
 abbrev μ-loop : tie.MeasureT-loop
 μ-loop site state₀ journal answers₀ n c₀ k₀ state answers c k = n - k
 
-start-requires : tie.Need-start-requires Inv-loop μ-loop
-start-requires c κs = search needs
-
 loop-holds : tie.Need-loop-holds Inv-loop μ-loop
 loop-holds c =
     let s = c .before .before .before .before .before in
     let a = s .args in
     (search needs, search needs, search needs, refl, refl, done-start (now (a .site)) (map entryOf (entries (now (a .journal)))) (panel (now (a .site)) (now (a .state))) (now (a .answers)) (now (a .state)) (s .pre .0 .1) refl)
 
-read-requires : tie.Need-read-requires Inv-loop μ-loop
-read-requires c κs = search needs
-
 step-requires : tie.Need-step-requires Inv-loop μ-loop
 step-requires c κs =
     let s = c .before .before .before .before .before .before .before .before .before in
     (s .pre .0 .0, c .before .before .before .loop .inv .3 ∙ s .pre .0 .1)
-
-put-answer-requires : tie.Need-put-answer-requires Inv-loop μ-loop
-put-answer-requires c κs = search needs
 
 next-requires : tie.Need-next-requires Inv-loop μ-loop
 next-requires c κs =
@@ -46,12 +37,6 @@ next-requires c κs =
     let i = l .loop .inv in
     let t : l .loop .k < length (now (c .before .before .before .before .before .before .before .before .before .before .before .before .before .before .before .before .args .journal)) / 24 = c .before .before .before .before .before .before .before .before .before .loop-test .taken in
     omega (arith, i .2, t)
-
-add-k : tie.Need-add-k Inv-loop μ-loop
-add-k c = search needs
-
-loop-less : tie.Need-loop-less Inv-loop μ-loop
-loop-less c = search needs
 
 loop-again : tie.Need-loop-again Inv-loop μ-loop
 loop-again c =
@@ -73,12 +58,6 @@ loop-again c =
     h f e (p .ensures .0) (p .ensures .1) (w .ensures) (i .5) in
     (omega arith, refl, omega (arith, c .next .ensures, i .2), q .state-length ∙ sym (s .pre .0 .1), omega (arith, i .4, w .kept), rw add-one q)
 
-same-length : tie.Need-same-length Inv-loop μ-loop
-same-length c = search needs
-
-same-length-2 : tie.Need-same-length-2 Inv-loop μ-loop
-same-length-2 c = search needs
-
 returns : tie.Need-returns Inv-loop μ-loop
 returns c =
     let l = c .before in
@@ -95,15 +74,13 @@ run-spec =
     (tie.spec
     Inv-loop
     μ-loop
-    start-requires
+    (λ c κs. search needs)
     loop-holds
-    read-requires
+    (λ c κs. search needs)
     step-requires
-    put-answer-requires
+    (λ c κs. search needs)
     next-requires
-    add-k
-    loop-less
+    (λ c. search needs) (λ c. search needs)
     loop-again
-    same-length
-    same-length-2
+    (λ c. search needs) (λ c. search needs)
     returns)

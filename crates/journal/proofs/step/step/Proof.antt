@@ -6,15 +6,6 @@ use borrow.Author.Needs.{needs}
 use Rattle.journal.proofs.step.step.Statement.{statement}
 use Rattle.journal.proofs.step.step.Tie as tie
 
-decide-requires : tie.Need-decide-requires
-decide-requires c κs = search needs
-
-apply-outcome-requires : tie.Need-apply-outcome-requires
-apply-outcome-requires c κs = search needs
-
-same-length : tie.Need-same-length
-same-length c = search needs
-
 returns : tie.Need-returns
 returns c =
     let s = c .before .before .before .before .before .before .before .before .before .before .before in
@@ -25,4 +16,4 @@ returns c =
     )
 
 pub step-spec : {M : Type 1} → statement M
-step-spec = tie.close (tie.spec decide-requires apply-outcome-requires same-length returns)
+step-spec = tie.close (tie.spec (λ c κs. search needs) (λ c κs. search needs) (λ c. search needs) returns)

@@ -9,7 +9,7 @@ use lib.ListN.{length}
 use Rattle.octets.proofs.Groups.{length-groups}
 use Rattle.model.specs.Lists.{answersIn}
 use Rattle.model.specs.Print.{hexLine, answersText}
-use Rattle.print.proofs.Written.{written, written-start, written-step, written-end}
+use Rattle.octets.proofs.Written.{written, written-start, written-step, written-end}
 use Rattle.print.proofs.lines.write_answers.Statement.{statement}
 use Rattle.print.proofs.lines.write_answers.Tie as tie
 
@@ -28,15 +28,6 @@ loop-holds c =
     let a = c .before .before .args in
     (omega arith, refl, written-start hexLine 33 (answersIn (now (a .answers))) (now (a .text)))
 
-write-line-at-requires : tie.Need-write-line-at-requires Inv-loop μ-loop
-write-line-at-requires c κs = search needs
-
-add-k : tie.Need-add-k Inv-loop μ-loop
-add-k c = search needs
-
-loop-less : tie.Need-loop-less Inv-loop μ-loop
-loop-less c = search needs
-
 loop-again : tie.Need-loop-again Inv-loop μ-loop
 loop-again c =
     let l = c .before .before .before .before .before .loop in
@@ -48,12 +39,6 @@ loop-again c =
       omega arith,
       written-step hexLine 33 (answersIn answers) (now (a .text)) (l .k) [] (l .text) (w .last .0) h (omega arith) (l .inv .1) (l .inv .2) (w .ensures),
     )
-
-mul-result : tie.Need-mul-result Inv-loop μ-loop
-mul-result c = search needs
-
-same-length : tie.Need-same-length Inv-loop μ-loop
-same-length c = search needs
 
 returns : tie.Need-returns Inv-loop μ-loop
 unfolding answersText
@@ -70,10 +55,7 @@ write-answers-spec =
     Inv-loop
     μ-loop
     loop-holds
-    write-line-at-requires
-    add-k
-    loop-less
+    (λ c κs. search needs) (λ c. search needs) (λ c. search needs)
     loop-again
-    mul-result
-    same-length
+    (λ c. search needs) (λ c. search needs)
     returns)

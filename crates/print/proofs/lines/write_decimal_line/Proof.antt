@@ -10,17 +10,8 @@ use Rattle.model.specs.Print.{line-feed, decimalLine}
 use Rattle.print.proofs.lines.write_decimal_line.Statement.{statement}
 use Rattle.print.proofs.lines.write_decimal_line.Tie as tie
 
-decimal-digit-requires : tie.Need-decimal-digit-requires
-decimal-digit-requires c κs = search needs
-
-slice-write-text : tie.Need-slice-write-text
-slice-write-text c = search needs
-
 slice-write-text-2 : tie.Need-slice-write-text-2
 slice-write-text-2 c = simp length-set (omega arith)
-
-same-length : tie.Need-same-length
-same-length c = search needs
 
 returns : tie.Need-returns
 unfolding decimalLine
@@ -29,23 +20,8 @@ returns c =
     rw (lt-ltb _ _ (c .before .if1 .taken))
     (sets-eq (digit .result ∷ line-feed ∷ []) (now (c .before .before .before .args .text)) 0 (omega arith) ∙ rw (digit .ensures), refl)
 
-decimal-digit-requires-2 : tie.Need-decimal-digit-requires-2
-decimal-digit-requires-2 c κs = search needs
-
-slice-write-text-3 : tie.Need-slice-write-text-3
-slice-write-text-3 c = search needs
-
-decimal-digit-requires-3 : tie.Need-decimal-digit-requires-3
-decimal-digit-requires-3 c κs = search needs
-
 slice-write-text-4 : tie.Need-slice-write-text-4
 slice-write-text-4 c = simp length-set (omega arith)
-
-slice-write-text-5 : tie.Need-slice-write-text-5
-slice-write-text-5 c = search needs
-
-same-length-2 : tie.Need-same-length-2
-same-length-2 c = search needs
 
 returns-2 : tie.Need-returns-2
 unfolding decimalLine
@@ -62,15 +38,11 @@ pub write-decimal-line-spec : {M : Type 1} → statement M
 write-decimal-line-spec =
     tie.close
     (tie.spec
-    decimal-digit-requires
-    slice-write-text
+    (λ c κs. search needs) (λ c. search needs)
     slice-write-text-2
-    same-length
+    (λ c. search needs)
     returns
-    decimal-digit-requires-2
-    slice-write-text-3
-    decimal-digit-requires-3
+    (λ c κs. search needs) (λ c. search needs) (λ c κs. search needs)
     slice-write-text-4
-    slice-write-text-5
-    same-length-2
+    (λ c. search needs) (λ c. search needs)
     returns-2)

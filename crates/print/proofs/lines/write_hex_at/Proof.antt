@@ -1,30 +1,9 @@
 use borrow.Author.Needs.{needs}
 use denote.Ref.{now}
 use Rattle.model.specs.Print.{hexByte}
-use Rattle.print.proofs.Written.{part-back}
+use Rattle.octets.proofs.Groups.{part-back}
 use Rattle.print.proofs.lines.write_hex_at.Statement.{statement}
 use Rattle.print.proofs.lines.write_hex_at.Tie as tie
-
-mul-start : tie.Need-mul-start
-mul-start c = search needs
-
-add-end : tie.Need-add-end
-add-end c = search needs
-
-sub-write-hex-byte : tie.Need-sub-write-hex-byte
-sub-write-hex-byte c = search needs
-
-part-write-hex-byte-start : tie.Need-part-write-hex-byte-start
-part-write-hex-byte-start c = search needs
-
-part-write-hex-byte-end : tie.Need-part-write-hex-byte-end
-part-write-hex-byte-end c = search needs
-
-write-hex-byte-requires : tie.Need-write-hex-byte-requires
-write-hex-byte-requires c κs = search needs
-
-same-length : tie.Need-same-length
-same-length c = search needs
 
 returns : tie.Need-returns
 returns c =
@@ -35,11 +14,6 @@ pub write-hex-at-spec : {M : Type 1} → statement M
 write-hex-at-spec =
     tie.close
     (tie.spec
-    mul-start
-    add-end
-    sub-write-hex-byte
-    part-write-hex-byte-start
-    part-write-hex-byte-end
-    write-hex-byte-requires
-    same-length
+    (λ c. search needs) (λ c. search needs) (λ c. search needs) (λ c. search needs) (λ c. search needs)
+    (λ c κs. search needs) (λ c. search needs)
     returns)

@@ -9,21 +9,6 @@ use Rattle.model.specs.Print.{hexByte}
 use Rattle.print.proofs.lines.write_hex_byte.Statement.{statement}
 use Rattle.print.proofs.lines.write_hex_byte.Tie as tie
 
-hex-digit-requires : tie.Need-hex-digit-requires
-hex-digit-requires c κs = search needs
-
-slice-write-part : tie.Need-slice-write-part
-slice-write-part c = search needs
-
-hex-digit-requires-2 : tie.Need-hex-digit-requires-2
-hex-digit-requires-2 c κs = search needs
-
-slice-write-part-2 : tie.Need-slice-write-part-2
-slice-write-part-2 c = search needs
-
-same-length : tie.Need-same-length
-same-length c = search needs
-
 returns : tie.Need-returns
 unfolding hexByte
 returns c =
@@ -37,9 +22,5 @@ pub write-hex-byte-spec : {M : Type 1} → statement M
 write-hex-byte-spec =
     tie.close
     (tie.spec
-    hex-digit-requires
-    slice-write-part
-    hex-digit-requires-2
-    slice-write-part-2
-    same-length
+    (λ c κs. search needs) (λ c. search needs) (λ c κs. search needs) (λ c. search needs) (λ c. search needs)
     returns)

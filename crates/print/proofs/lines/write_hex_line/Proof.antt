@@ -7,7 +7,8 @@ use borrow.Author.Needs.{needs}
 use denote.Ref.{now}
 use lib.ListN.{length}
 use Rattle.model.specs.Print.{line-feed, hexByte, hexLine}
-use Rattle.print.proofs.Written.{written, written-start, written-step, written-end, line-end}
+use Rattle.octets.proofs.Written.{written, written-start, written-step, written-end}
+use Rattle.print.proofs.LineEnd.{line-end}
 use Rattle.print.proofs.lines.write_hex_line.Statement.{statement}
 use Rattle.print.proofs.lines.write_hex_line.Tie as tie
 
@@ -22,18 +23,6 @@ loop-holds c =
     let a = c .before .before .args in
     (omega arith, refl, written-start hexByte 2 (now (a .answer)) (now (a .line)))
 
-shared-slice-read-write-hex-at : tie.Need-shared-slice-read-write-hex-at Inv-loop μ-loop
-shared-slice-read-write-hex-at c = search needs
-
-write-hex-at-requires : tie.Need-write-hex-at-requires Inv-loop μ-loop
-write-hex-at-requires c κs = search needs
-
-add-i : tie.Need-add-i Inv-loop μ-loop
-add-i c = search needs
-
-loop-less : tie.Need-loop-less Inv-loop μ-loop
-loop-less c = search needs
-
 loop-again : tie.Need-loop-again Inv-loop μ-loop
 loop-again c =
     let l = c .before .before .before .before .before .before .loop in
@@ -44,12 +33,6 @@ loop-again c =
       omega arith,
       written-step hexByte 2 (now (a .answer)) (now (a .line)) (l .i) 0 (l .line) (w .last .0) h (omega arith) (l .inv .1) (l .inv .2) (w .ensures),
     )
-
-slice-write-line : tie.Need-slice-write-line Inv-loop μ-loop
-slice-write-line c = search needs
-
-same-length : tie.Need-same-length Inv-loop μ-loop
-same-length c = search needs
 
 returns : tie.Need-returns Inv-loop μ-loop
 unfolding hexLine
@@ -66,11 +49,7 @@ write-hex-line-spec =
     Inv-loop
     μ-loop
     loop-holds
-    shared-slice-read-write-hex-at
-    write-hex-at-requires
-    add-i
-    loop-less
+    (λ c. search needs) (λ c κs. search needs) (λ c. search needs) (λ c. search needs)
     loop-again
-    slice-write-line
-    same-length
+    (λ c. search needs) (λ c. search needs)
     returns)

@@ -25,10 +25,8 @@ pub find-spec : {M : Type 1} → statement M
 find-spec =
     tie.close
     (tie.spec
-    (λ c κs. tt)
-    (λ c. search needs)
+    (λ c κs. tt) (λ c. search needs)
     record-at-requires
-    (λ c. search needs)
-    (λ c. search needs)
+    (λ c. search needs) (λ c. search needs)
     returns
     returns-2)

@@ -21,9 +21,6 @@ abbrev μ-loop : tie.MeasureT-loop
 loop-holds : tie.Need-loop-holds Inv-loop μ-loop
 loop-holds c = (c .record-count .ensures, refl)
 
-record-at-requires : tie.Need-record-at-requires Inv-loop μ-loop
-record-at-requires c κs = search needs
-
 returns : tie.Need-returns Inv-loop μ-loop
 returns c =
     let l = c .before .before .before .before in
@@ -31,12 +28,6 @@ returns c =
     let ss = records (now (a .site)) in
     let h : l .loop .i < length ss = omega arith in
     rw (← l .loop .inv .1, walk-find (confirming (a .credential .0) (a .format) (a .value)) ss (l .loop .i) h, ← c .before .before .record-at .ensures .0, ← c .before .is-confirming .ensures, c .if1 .taken)
-
-add-i : tie.Need-add-i Inv-loop μ-loop
-add-i c = search needs
-
-loop-less : tie.Need-loop-less Inv-loop μ-loop
-loop-less c = search needs
 
 loop-again : tie.Need-loop-again Inv-loop μ-loop
 loop-again c =
@@ -46,9 +37,6 @@ loop-again c =
     let h : l .loop .i < length ss = omega arith in
     let w = walk-find (confirming (a .credential .0) (a .format) (a .value)) ss (l .loop .i) h in
     (l .loop .inv .0, sym (rw (← c .before .before .record-at .ensures .0, ← c .before .is-confirming .ensures, c .if1 .left) at w) ∙ l .loop .inv .1)
-
-slice-aggregate-result : tie.Need-slice-aggregate-result Inv-loop μ-loop
-slice-aggregate-result c = search needs
 
 returns-2 : tie.Need-returns-2 Inv-loop μ-loop
 returns-2 c =
@@ -64,11 +52,10 @@ find-confirming-spec =
     μ-loop
     (λ c κs. tt)
     loop-holds
-    record-at-requires
+    (λ c κs. search needs)
     (λ c κs. c .record-at .ensures .1)
     returns
-    add-i
-    loop-less
+    (λ c. search needs) (λ c. search needs)
     loop-again
-    slice-aggregate-result
+    (λ c. search needs)
     returns-2)

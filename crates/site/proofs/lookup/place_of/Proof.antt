@@ -22,9 +22,6 @@ loop-holds : tie.Need-loop-holds Inv-loop μ-loop
 unfolding placeOf
 loop-holds c = (c .record-count .ensures, refl)
 
-record-at-requires : tie.Need-record-at-requires Inv-loop μ-loop
-record-at-requires c κs = search needs
-
 returns : tie.Need-returns Inv-loop μ-loop
 returns c =
     let l = c .before .before .before .before in
@@ -32,12 +29,6 @@ returns c =
     let ss = records (now (a .site)) in
     let h : l .loop .i < length ss = omega arith in
     rw (← l .loop .inv .1, walk-place (isAt (a .kind) (a .instance)) ss (l .loop .i) h, ← c .before .before .record-at .ensures .0, ← c .before .is-at .ensures, c .if1 .taken)
-
-add-i : tie.Need-add-i Inv-loop μ-loop
-add-i c = search needs
-
-loop-less : tie.Need-loop-less Inv-loop μ-loop
-loop-less c = search needs
 
 loop-again : tie.Need-loop-again Inv-loop μ-loop
 loop-again c =
@@ -62,10 +53,9 @@ place-of-spec =
     μ-loop
     (λ c κs. tt)
     loop-holds
-    record-at-requires
+    (λ c κs. search needs)
     (λ c κs. c .record-at .ensures .1)
     returns
-    add-i
-    loop-less
+    (λ c. search needs) (λ c. search needs)
     loop-again
     returns-2)

@@ -12,11 +12,7 @@ in-range-spec =
     (tie.spec
     (λ c κs. search needs)
     (λ c. rw (← c .before .get-u32 .ensures, le-ltb _ _ (c .if1 .taken)))
-    (λ c κs. search needs)
-    (λ c κs. search needs)
-    (λ c κs. search needs)
-    (λ c κs. search needs)
-    (λ c κs. search needs)
+    (λ c κs. search needs) (λ c κs. search needs) (λ c κs. search needs) (λ c κs. search needs) (λ c κs. search needs)
     (λ c κs. search needs)
     (λ c. rw (← c .before .before .before .before .get-u32 .ensures, lt-ltb _ _ (c .before .before .before .if1 .left), ← c .before .before .get-u8 .ensures, c .before .match .keys1) (c .zone-in-range .ensures))
     (λ c. rw (← c .before .before .before .before .get-u32 .ensures, lt-ltb _ _ (c .before .before .before .if1 .left), ← c .before .before .get-u8 .ensures, c .before .match .keys2) (c .point-in-range .ensures))

@@ -17,14 +17,8 @@ Inv-loop part at n end i₀ i = (end ≡ at + n) × (clear i (end - i) part ≡ 
 abbrev μ-loop : tie.MeasureT-loop
 μ-loop part at n end i₀ i = end - i
 
-add-end : tie.Need-add-end Inv-loop μ-loop
-add-end c = search needs
-
 loop-holds : tie.Need-loop-holds Inv-loop μ-loop
 loop-holds c = (search needs, rw (add-sub-cancel-left (c .args .at) (c .args .n)))
-
-shared-slice-read-if1 : tie.Need-shared-slice-read-if1 Inv-loop μ-loop
-shared-slice-read-if1 c = search needs
 
 returns : tie.Need-returns Inv-loop μ-loop
 returns c =
@@ -33,12 +27,6 @@ returns c =
     let e = a .at + a .n in
     let h : l .loop .i < e = omega arith in
     rw (← l .loop .inv .1, clear-turn (l .loop .i) e (now (a .part)) h (omega arith), ne-eqb _ _ (c .if1 .taken))
-
-add-i : tie.Need-add-i Inv-loop μ-loop
-add-i c = search needs
-
-loop-less : tie.Need-loop-less Inv-loop μ-loop
-loop-less c = search needs
 
 loop-again : tie.Need-loop-again Inv-loop μ-loop
 loop-again c =
@@ -62,11 +50,10 @@ is-clear-spec =
     (tie.spec
     Inv-loop
     μ-loop
-    add-end
+    (λ c. search needs)
     loop-holds
-    shared-slice-read-if1
+    (λ c. search needs)
     returns
-    add-i
-    loop-less
+    (λ c. search needs) (λ c. search needs)
     loop-again
     returns-2)

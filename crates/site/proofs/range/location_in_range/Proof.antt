@@ -7,8 +7,6 @@ pub location-in-range-spec : {M : Type 1} → statement M
 location-in-range-spec =
     tie.close
     (tie.spec
-    (λ c κs. search needs)
-    (λ c κs. search needs)
-    (λ c κs. search needs)
+    (λ c κs. search needs) (λ c κs. search needs) (λ c κs. search needs)
     (λ c. rw (← c .before .is-everywhere .ensures, c .if1 .taken, c .before .before .get-u32 .ensures, c .before .before .before .get-u8 .ensures))
     (λ c. rw (← c .before .is-everywhere .ensures, c .if1 .left, c .before .before .get-u32 .ensures, c .before .before .before .get-u8 .ensures)))

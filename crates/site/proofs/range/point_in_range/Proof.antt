@@ -9,11 +9,6 @@ unfolding pointInRange
 point-in-range-spec =
     tie.close
     (tie.spec
-    (λ c κs. search needs)
-    (λ c κs. search needs)
-    (λ c κs. search needs)
-    (λ c κs. search needs)
-    (λ c κs. search needs)
-    (λ c κs. search needs)
-    (λ c κs. search needs)
+    (λ c κs. search needs) (λ c κs. search needs) (λ c κs. search needs) (λ c κs. search needs) (λ c κs. search needs)
+    (λ c κs. search needs) (λ c κs. search needs)
     (λ c. rw (c .is-clear .ensures, c .before .get-u84 .ensures, c .before .before .get-u83 .ensures, c .before .before .before .get-u82 .ensures, c .before .before .before .before .get-u322 .ensures, c .before .before .before .before .before .get-u32 .ensures, c .before .before .before .before .before .before .get-u8 .ensures)))

@@ -9,10 +9,6 @@ unfolding ruleInRange
 rule-in-range-spec =
     tie.close
     (tie.spec
-    (λ c κs. search needs)
-    (λ c κs. search needs)
-    (λ c κs. search needs)
-    (λ c κs. search needs)
-    (λ c κs. search needs)
+    (λ c κs. search needs) (λ c κs. search needs) (λ c κs. search needs) (λ c κs. search needs) (λ c κs. search needs)
     (λ c κs. search needs)
     (λ c. rw (c .is-clear .ensures, c .before .location-in-range .ensures, c .before .before .get-u82 .ensures, c .before .before .before .get-u8 .ensures, c .before .before .before .before .get-u162 .ensures, c .before .before .before .before .before .get-u16 .ensures)))

@@ -9,8 +9,5 @@ unfolding zoneInRange
 zone-in-range-spec =
     tie.close
     (tie.spec
-    (λ c κs. search needs)
-    (λ c κs. search needs)
-    (λ c κs. search needs)
-    (λ c κs. search needs)
+    (λ c κs. search needs) (λ c κs. search needs) (λ c κs. search needs) (λ c κs. search needs)
     (λ c. rw (c .is-clear2 .ensures, c .before .is-clear .ensures, c .before .before .get-u82 .ensures, c .before .before .before .get-u8 .ensures)))

@@ -9,7 +9,5 @@ unfolding freshCredential
 fresh-credential-spec =
     tie.close
     (tie.spec
-    (λ c κs. search needs)
-    (λ c κs. search needs)
-    (λ c κs. search needs)
+    (λ c κs. search needs) (λ c κs. search needs) (λ c κs. search needs)
     (λ c. rw (c .get-u8 .ensures, c .before .get-u162 .ensures, c .before .before .get-u16 .ensures)))

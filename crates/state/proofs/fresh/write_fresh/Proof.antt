@@ -10,13 +10,8 @@ unfolding freshRecord
 write-fresh-spec =
     tie.close
     (tie.spec
-    (λ c κs. search needs)
-    (λ c κs. tt)
-    (λ c κs. search needs)
-    (λ c κs. search needs)
-    (λ c κs. search needs)
-    (λ c κs. search needs)
-    (λ c. search needs)
+    (λ c κs. search needs) (λ c κs. tt) (λ c κs. search needs) (λ c κs. search needs) (λ c κs. search needs)
+    (λ c κs. search needs) (λ c. search needs)
     (λ c.
     let m = c .before .before .before .before .before in
     rw (← m .before .get-u8 .ensures, m .match .keys1, ← c .before .before .before .fresh-point .ensures) (c .before .before .write-point .ensures))

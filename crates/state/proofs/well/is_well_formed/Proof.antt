@@ -24,17 +24,8 @@ loop-holds : tie.Need-loop-holds Inv-loop μ-loop
 unfolding wellFormed
 loop-holds c = (c .group-count .ensures, refl)
 
-group-requires : tie.Need-group-requires Inv-loop μ-loop
-group-requires c κs = search needs
-
-group-requires-2 : tie.Need-group-requires-2 Inv-loop μ-loop
-group-requires-2 c κs = search needs
-
 record-well-requires : tie.Need-record-well-requires Inv-loop μ-loop
 record-well-requires c κs = (c .before .group .ensures .1, c .group2 .ensures .1)
-
-add-i : tie.Need-add-i Inv-loop μ-loop
-add-i c = search needs
 
 returns : tie.Need-returns Inv-loop μ-loop
 returns c =
@@ -44,9 +35,6 @@ returns c =
     let h : l .loop .i < length site / 32 = omega arith in
     let e : length (now (a .state)) ≡ length site = l .before .before .before .before .pre .1 in
     rw (← l .loop .inv .1, walk-pairs (recordWell (records site)) site (now (a .state)) (l .loop .i) e h, ← c .before .before .before .group .ensures .0, ← c .before .before .group2 .ensures .0, ← c .before .record-well .ensures, not-true (c .before .record-well .result) (c .if1 .taken))
-
-loop-less : tie.Need-loop-less Inv-loop μ-loop
-loop-less c = search needs
 
 loop-again : tie.Need-loop-again Inv-loop μ-loop
 loop-again c =
@@ -73,11 +61,10 @@ is-well-formed-spec =
     μ-loop
     (λ c κs. tt)
     loop-holds
-    group-requires
-    group-requires-2
+    (λ c κs. search needs) (λ c κs. search needs)
     record-well-requires
-    add-i
+    (λ c. search needs)
     returns
-    loop-less
+    (λ c. search needs)
     loop-again
     returns-2)

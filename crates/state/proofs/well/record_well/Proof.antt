@@ -10,11 +10,7 @@ unfolding recordWell
 record-well-spec =
     tie.close
     (tie.spec
-    (λ c κs. search needs)
-    (λ c κs. search needs)
-    (λ c κs. search needs)
-    (λ c κs. search needs)
-    (λ c κs. search needs)
+    (λ c κs. search needs) (λ c κs. search needs) (λ c κs. search needs) (λ c κs. search needs) (λ c κs. search needs)
     (λ c. rw (← c .before .before .get-u8 .ensures, c .before .match .keys1) (c .zone-well .ensures))
     (λ c. rw (← c .before .before .get-u8 .ensures, c .before .match .keys2) (c .point-well .ensures))
     (λ c. rw (← c .before .before .get-u8 .ensures, c .before .match .keys3) (c .credential-well .ensures))

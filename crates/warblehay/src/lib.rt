@@ -1,0 +1,70 @@
+// The calls for C, each with the number of its outcome, and the lookups, with that of a place. A slice passes as a pointer and a length.
+ghost use mathlib.Core.Path.{_≡_};
+ghost use Rattle.model.specs.Numbers.{access-zone, access-point, access-credential};
+ghost use Rattle.model.specs.Calls.{number, checkSite, freshState, runJournal};
+ghost use Rattle.site.specs.Place.{placeOf};
+ghost use Rattle.warblehay.specs.PlaceNumber.{placeNumber};
+use site::CredentialId;
+use site::Place;
+use site::PointId;
+use site::ZoneId;
+
+// The place of a record that is not there.
+pub const NOWHERE: usize = 18446744073709551615;
+
+#[no_mangle]
+pub extern "C" fn warblehay_check_site(site: &[u8]) -> u32
+    ensures { λ r. ⌜ r ≡ number (checkSite (now (site .entry))) ⌝ }
+{
+    panel::number_of(panel::check_site(site))
+}
+
+#[no_mangle]
+pub extern "C" fn warblehay_fresh_state(site: &[u8], state: &mut [u8]) -> u32
+    ensures { λ r. ⌜ (r ≡ number (freshState (now (site .entry)) (now (state .entry)) .returned)) × (now (state .exit) ≡ freshState (now (site .entry)) (now (state .entry)) .state) ⌝ }
+{
+    panel::number_of(panel::fresh_state(site, state))
+}
+
+#[no_mangle]
+pub extern "C" fn warblehay_run_journal(
+    site: &[u8],
+    state: &mut [u8],
+    journal: &[u8],
+    answers: &mut [u8],
+) -> u32
+    ensures { λ r. ⌜ (r ≡ number (runJournal (now (site .entry)) (now (state .entry)) (now (journal .entry)) (now (answers .entry)) .returned)) × (now (state .exit) ≡ runJournal (now (site .entry)) (now (state .entry)) (now (journal .entry)) (now (answers .entry)) .state) × (now (answers .exit) ≡ runJournal (now (site .entry)) (now (state .entry)) (now (journal .entry)) (now (answers .entry)) .answers) ⌝ }
+{
+    panel::number_of(panel::run_journal(site, state, journal, answers))
+}
+
+fn place_number(place: Place) -> usize
+    ensures { λ r. ⌜ r ≡ placeNumber place ⌝ }
+{
+    match place {
+        Place::At(i) => i,
+        Place::Nothing => NOWHERE,
+    }
+}
+
+// The lookups, on any bytes: the place of the first record of a kind and an instance, 0 for the first of the site.
+#[no_mangle]
+pub extern "C" fn warblehay_place_of_zone(site: &[u8], zone: u32) -> usize
+    ensures { λ r. ⌜ r ≡ placeNumber (placeOf access-zone zone (now (site .entry))) ⌝ }
+{
+    place_number(site::lookup::place_of_zone(site, ZoneId(zone)))
+}
+
+#[no_mangle]
+pub extern "C" fn warblehay_place_of_point(site: &[u8], point: u32) -> usize
+    ensures { λ r. ⌜ r ≡ placeNumber (placeOf access-point point (now (site .entry))) ⌝ }
+{
+    place_number(site::lookup::place_of_point(site, PointId(point)))
+}
+
+#[no_mangle]
+pub extern "C" fn warblehay_place_of_credential(site: &[u8], credential: u32) -> usize
+    ensures { λ r. ⌜ r ≡ placeNumber (placeOf access-credential credential (now (site .entry))) ⌝ }
+{
+    place_number(site::lookup::place_of_credential(site, CredentialId(credential)))
+}

@@ -1,0 +1,57 @@
+/* stack SITE JOURNAL: the bytes of stack that a run of the journal uses, the deepest of the calls, with the function that calls it. It runs on a
+ * stack of its own, painted before. */
+#define _XOPEN_SOURCE 700
+#include "warblehay.h"
+
+#include <stdio.h>
+#include <string.h>
+#include <ucontext.h>
+
+enum { STACK_SIZE = 1 << 16, PAINT = 0xC5 };
+
+static uint8_t stack[STACK_SIZE];
+static uint8_t site[WARBLEHAY_LARGEST_SITE], state[sizeof site], journal[WARBLEHAY_LARGEST_JOURNAL], answers[sizeof journal];
+static size_t site_length, journal_length;
+static uint32_t returned;
+static ucontext_t caller, callee;
+
+static size_t read_file(const char *name, uint8_t *buffer, size_t room)
+{
+    FILE *file = fopen(name, "rb");
+    size_t length = file == NULL ? 0 : fread(buffer, 1, room, file);
+    if (file != NULL)
+        fclose(file);
+    return length;
+}
+
+static void run(void)
+{
+    size_t answers_length = journal_length / WARBLEHAY_ENTRY_SIZE * WARBLEHAY_ANSWER_SIZE;
+    returned = warblehay_run_journal(site, site_length, state, site_length, journal, journal_length, answers, answers_length);
+}
+
+int main(int count, char **arguments)
+{
+    if (count != 3)
+        return 1;
+    site_length = read_file(arguments[1], site, sizeof site);
+    journal_length = read_file(arguments[2], journal, sizeof journal);
+    if (warblehay_fresh_state(site, site_length, state, site_length) != WARBLEHAY_WORKED_THROUGH || journal_length == 0)
+        return 1;
+
+    memset(stack, PAINT, sizeof stack);
+    getcontext(&callee);
+    callee.uc_stack.ss_sp = stack;
+    callee.uc_stack.ss_size = sizeof stack;
+    callee.uc_link = &caller;
+    makecontext(&callee, run, 0);
+    swapcontext(&caller, &callee);
+    if (returned != WARBLEHAY_WORKED_THROUGH)
+        return 1;
+
+    size_t unused = 0;
+    while (unused < sizeof stack && stack[unused] == PAINT)
+        unused++;
+    printf("%zu\n", sizeof stack - unused);
+    return 0;
+}

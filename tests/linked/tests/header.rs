@@ -1,0 +1,163 @@
+//! The numbers of the header, as the C compiler reads them, are those of the second implementation.
+
+mod library;
+
+use reference::numbers::*;
+use std::collections::BTreeSet;
+use std::fs;
+
+const PREFIX: &str = "WARBLEHAY_";
+
+/// What document 01 returns, from a call or in an answer.
+fn outcomes() -> Vec<(&'static str, u64)> {
+    use refusal::*;
+    Vec::from([
+        ("WORKED_THROUGH", ACCEPTED),
+        ("SITE_LENGTH", SITE_LENGTH),
+        ("SITE_FIELD", SITE_FIELD),
+        ("SITE_TWICE", SITE_TWICE),
+        ("SITE_MISSING", SITE_MISSING),
+        ("STATE_LENGTH", STATE_LENGTH),
+        ("STATE_FORM", STATE_FORM),
+        ("REFUSED_FORM", ENTRY_FIELD),
+        ("REFUSED_NO_OBJECT", ENTRY_MISSING),
+        ("REFUSED_COUNT", ENTRY_COUNT),
+        ("JOURNAL_LENGTH", JOURNAL_LENGTH),
+        ("ANSWERS_LENGTH", ANSWERS_LENGTH),
+    ])
+    .into_iter()
+    .map(|(name, number)| (name, number.into()))
+    .collect()
+}
+
+fn sizes_and_times() -> Vec<(&'static str, u64)> {
+    Vec::from([
+        ("NONE", NONE.into()),
+        ("NEVER", NEVER.into()),
+        ("UNLIMITED", UNLIMITED.into()),
+        ("LARGEST_COUNT", MOST_COUNT.into()),
+        ("RECORD_SIZE", RECORD_LENGTH as u64),
+        ("ENTRY_SIZE", ENTRY_LENGTH as u64),
+        ("ANSWER_SIZE", ANSWER_LENGTH as u64),
+        ("LARGEST_SITE", MOST_SITE_BYTES as u64),
+        ("LARGEST_JOURNAL", MOST_JOURNAL_BYTES as u64),
+        ("SECONDS_OF_MINUTE", SECONDS_PER_MINUTE.into()),
+        ("MINUTES_OF_DAY", MINUTES_PER_DAY.into()),
+        ("SECONDS_OF_DAY", SECONDS_PER_DAY.into()),
+        ("DAYS_OF_WEEK", DAYS_PER_WEEK.into()),
+        // The reference has no name for these; they are what Rust says of its numbers.
+        ("MODULUS", u64::from(u32::MAX) + 1),
+        ("FIRST_NEGATIVE", u64::from(i32::MIN as u32)),
+        ("NOWHERE", u64::MAX),
+    ])
+}
+
+fn fields() -> Vec<(&'static str, u64)> {
+    Vec::from([
+        ("ACCESS_ZONE", kind::ZONE),
+        ("ACCESS_POINT", kind::POINT),
+        ("ACCESS_RULE", kind::RULE),
+        ("ACCESS_CREDENTIAL", kind::CREDENTIAL),
+        ("AUTHENTICATION_FACTOR", kind::FACTOR),
+        ("ROLE_IDENTIFYING", factor_role::IDENTIFYING),
+        ("ROLE_CONFIRMING", factor_role::CONFIRMING),
+        ("PASSBACK_HARD", passback_mode::HARD_PASSBACK),
+        ("PASSBACK_SOFT", passback_mode::SOFT_PASSBACK),
+        ("MODE_AUTHORIZE", authorization_mode::AUTHORIZE),
+        ("MODE_DENY_ALL", authorization_mode::DENY_ALL),
+        ("TWO_FACTORS", factors_wanted::TWO),
+        ("DISABLE_DISABLED", credential_disable::DISABLE),
+        ("DISABLE_MANUAL", credential_disable::DISABLE_MANUAL),
+        ("DISABLE_LOCKOUT", credential_disable::DISABLE_LOCKOUT),
+        ("LARGEST_DISABLE", credential_disable::DISABLE_LOCKOUT),
+        ("FACTOR_DISABLED", factor_disable::DISABLED),
+        ("FACTOR_LOST", factor_disable::DISABLED_LOST),
+        ("FACTOR_STOLEN", factor_disable::DISABLED_STOLEN),
+        ("FACTOR_DAMAGED", factor_disable::DISABLED_DAMAGED),
+        ("FORMAT_UNDEFINED", format::UNDEFINED),
+        ("FORMAT_ERROR", format::ERROR),
+        ("OPERATION_FACTOR", operation::READ_FACTOR),
+        ("OPERATION_SET_COUNT", operation::SET_COUNT),
+        ("OPERATION_ADJUST_COUNT", operation::ADJUST_COUNT),
+        ("OPERATION_SET_DISABLE", operation::SET_DISABLE),
+        ("OPERATION_SET_SERVICE", operation::SET_LOCKOUT),
+        // The reference reads this argument as a flag.
+        ("ARGUMENT_LOCK", true.into()),
+        ("NOT_REFUSED", refusal::ACCEPTED),
+        ("MARK_FACTOR_READ", mark::AUTHENTICATION_FACTOR_READ),
+        ("MARK_TRACE", mark::TRACE),
+        ("MARK_PASSBACK_DETECTED", mark::PASSBACK_DETECTED),
+        ("MARK_MUSTER", mark::MUSTER),
+        ("MARK_LOCKOUT_MAX_ATTEMPTS", mark::LOCKOUT_MAX_ATTEMPTS),
+        ("MARK_EXTENDED_UNLOCK", mark::EXTENDED_PULSE_UNLOCK),
+        ("MARK_LOCKOUT_RELINQUISHED", mark::LOCKOUT_RELINQUISHED),
+    ])
+    .into_iter()
+    .map(|(name, number)| (name, number.into()))
+    .collect()
+}
+
+/// The events have the same names on both sides, but for the one that is none.
+macro_rules! events {
+    ($($name:ident)*) => {
+        Vec::from([("NO_EVENT", event::NONE.into()), $((stringify!($name), event::$name.into())),*])
+    };
+}
+
+fn events() -> Vec<(&'static str, u64)> {
+    events! {
+        GRANTED LOCKOUT_OTHER LOCKOUT_RELINQUISHED DENIED_DENY_ALL DENIED_UNKNOWN_CREDENTIAL
+        DENIED_AUTHENTICATION_FACTOR_TIMEOUT DENIED_INCORRECT_AUTHENTICATION_FACTOR
+        DENIED_ZONE_NO_ACCESS_RIGHTS DENIED_POINT_NO_ACCESS_RIGHTS DENIED_NO_ACCESS_RIGHTS
+        DENIED_OUT_OF_TIME_RANGE DENIED_THREAT_LEVEL DENIED_PASSBACK DENIED_LOWER_OCCUPANCY_LIMIT
+        DENIED_UPPER_OCCUPANCY_LIMIT DENIED_AUTHENTICATION_FACTOR_LOST
+        DENIED_AUTHENTICATION_FACTOR_STOLEN DENIED_AUTHENTICATION_FACTOR_DAMAGED
+        DENIED_AUTHENTICATION_FACTOR_DESTROYED DENIED_AUTHENTICATION_FACTOR_DISABLED
+        DENIED_AUTHENTICATION_FACTOR_ERROR DENIED_CREDENTIAL_NOT_YET_ACTIVE
+        DENIED_CREDENTIAL_EXPIRED DENIED_CREDENTIAL_MANUAL_DISABLE DENIED_CREDENTIAL_LOCKOUT
+        DENIED_CREDENTIAL_MAX_DAYS DENIED_CREDENTIAL_MAX_USES DENIED_CREDENTIAL_INACTIVITY
+        DENIED_CREDENTIAL_DISABLED DENIED_LOCKOUT DENIED_OTHER
+    }
+}
+
+fn numbers() -> Vec<(&'static str, u64)> {
+    [outcomes(), sizes_and_times(), fields(), events()].concat()
+}
+
+fn header() -> String {
+    fs::read_to_string(library::directory().join("warblehay.h")).expect("the header is there")
+}
+
+/// The names that the header defines, without their prefix. Its guard is no number.
+fn defined(header: &str) -> BTreeSet<&str> {
+    header
+        .lines()
+        .filter_map(|line| line.strip_prefix("#define "))
+        .map(|definition| definition.strip_prefix(PREFIX).expect("the prefix"))
+        .filter_map(|definition| Some(definition.split_once(' ')?.0))
+        .collect()
+}
+
+/// A number that is new in the header is to be compared too.
+#[test]
+fn every_number_is_compared() {
+    let compared = numbers().into_iter().map(|(name, _)| name).collect();
+    assert_eq!(defined(&header()), compared);
+}
+
+#[test]
+fn numbers_are_those_of_the_reference() {
+    let mut source = String::from("#include \"warblehay.h\"\n");
+    for (name, number) in numbers() {
+        source += &format!("_Static_assert({PREFIX}{name} == {number}u, \"{name}\");\n");
+    }
+    let file = library::scratch("header").join("numbers.c");
+    fs::write(&file, source).expect("the C file is written");
+    library::assert_succeeds(library::compiler().arg("-fsyntax-only").arg(file));
+}
+
+#[test]
+fn every_outcome_of_the_paper_has_a_name() {
+    let numbers: Vec<u64> = outcomes().into_iter().map(|(_, number)| number).collect();
+    assert_eq!(numbers, Vec::from_iter(0..=11));
+}
