@@ -12,11 +12,8 @@ use model::numbers::SECONDS_OF_DAY;
 use model::numbers::SECONDS_OF_MINUTE;
 ghost use mathlib.Core.Path.{_≡_};
 ghost use mathlib.Core.List.{[], _∷_};
-ghost use mathlib.Core.Bool.{not, _&&_};
 ghost use Prim.Native.Nat.{_<_};
-ghost use lib.Dec.{eqb};
 ghost use lib.ListN.{length};
-ghost use Rattle.model.specs.Numbers.{NONE};
 ghost use Rattle.model.specs.Site.{records};
 ghost use Rattle.model.specs.Checks.{enabledRule, locationFits, weekday, minuteOfDay, timeFits, verdict};
 ghost use Rattle.rules.specs.Walk.{both};
@@ -35,14 +32,7 @@ pub fn minute_of_day(time: u32) -> u16
     (time / SECONDS_OF_MINUTE % MINUTES_OF_DAY) as u16
 }
 
-// Whether a rights number of a credential is a rule's; NONE is no rule's.
-pub fn is_right(rights: u32, instance: u32) -> bool
-    ensures { λ r. ⌜ r ≡ (not (eqb rights NONE) && eqb instance rights) ⌝ }
-{
-    (rights != NONE) & (instance == rights)
-}
-
-// Whether a record is an enabled rule of either rights number. Records of another kind or number are passed over first.
+// Whether a record is an enabled rule of either rights number. Records of another kind or number are passed over first; NONE is no rule's.
 pub fn is_enabled_rule(part: &[u8], first: u32, second: u32) -> bool
     requires { ⌜ length (now part) ≡ 32 ⌝ }
     ensures { λ r. ⌜ r ≡ enabledRule first second (now (part .entry)) ⌝ }
@@ -54,7 +44,7 @@ pub fn is_enabled_rule(part: &[u8], first: u32, second: u32) -> bool
     if (instance != first) & (instance != second) {
         return false;
     }
-    (is_right(first, instance) | is_right(second, instance)) & records::flag_of(part, 0)
+    (instance != NONE) & records::flag_of(part, 0)
 }
 
 // Whether a rule holds at a point with a Zone_To.
@@ -94,17 +84,18 @@ pub fn with_record(
     requires { ⌜ length (now part) ≡ 32 ⌝ }
     ensures { λ r. ⌜ r ≡ both v (verdict first second point to time (now (part .entry) ∷ [])) ⌝ }
 {
-    if is_enabled_rule(part, first, second) {
-        let negative = records::flag_of(part, 1);
-        let located = location_fits(part, point, to);
-        let timely = time_fits(part, time);
-        Verdict {
-            negative_fits: v.negative_fits | (negative & located & timely),
-            positive_fits: v.positive_fits | (!negative & located & timely),
-            positive_located: v.positive_located | (!negative & located),
-        }
-    } else {
-        v
+    if !is_enabled_rule(part, first, second) {
+        return v;
+    }
+    if !location_fits(part, point, to) {
+        return v;
+    }
+    let negative = records::flag_of(part, 1);
+    let timely = time_fits(part, time);
+    Verdict {
+        negative_fits: v.negative_fits | (negative & timely),
+        positive_fits: v.positive_fits | (!negative & timely),
+        positive_located: v.positive_located | !negative,
     }
 }
 

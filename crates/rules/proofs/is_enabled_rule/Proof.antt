@@ -3,8 +3,9 @@ use mathlib.Core.Path.{sym}
 use denote.Ref.{now}
 use borrow.Author.Needs.{needs}
 use borrow.Author.Tests.{eq-eqb, ne-eqb}
+use Rattle.model.specs.Site.{instance}
 use Rattle.model.specs.Checks.{enabledRule}
-use Rattle.rules.proofs.Laws.{other-kind, other-number}
+use Rattle.rules.proofs.Laws.{other-kind, other-number, of-number}
 use Rattle.rules.proofs.is_enabled_rule.Statement.{statement}
 use Rattle.rules.proofs.is_enabled_rule.Tie as tie
 
@@ -21,13 +22,13 @@ returns-2 c =
 returns-3 : tie.Need-returns-3
 unfolding enabledRule
 returns-3 c =
-    let d = c .before .before .before .before in
+    let d = c .before .before in
+    let a = d .before .before .before .before .args in
     rw (
       ← d .before .before .get-u8 .ensures,
       eq-eqb _ _ (d .before .if1 .left),
+      of-number (a .first) (a .second) (instance (now (a .part))) (rw (← d .get-u32 .ensures) (c .before .if2 .left)),
       c .flag-of .ensures,
-      c .before .is-right2 .ensures,
-      c .before .before .is-right .ensures,
       d .get-u32 .ensures,
     )
 
@@ -37,4 +38,4 @@ is-enabled-rule-spec =
     (tie.spec
     (λ c κs. search needs) returns
     (λ c κs. search needs) returns-2
-    (λ c κs. search needs) (λ c κs. search needs) (λ c κs. search needs) returns-3)
+    (λ c κs. search needs) returns-3)
