@@ -134,15 +134,15 @@ fn has_value(part: &[u8], value: [u8; 8]) -> bool
     same_eight(part, 16, &value, 0)
 }
 
-// Whether a factor has a format and a value.
+// Whether a factor has a format and a value. Most differ in the value.
 fn is_presented(part: &[u8], format: u8, value: [u8; 8]) -> bool
     requires { ⌜ length (now part) ≡ 32 ⌝ }
     ensures { λ r. ⌜ r ≡ presents format value (now (part .entry)) ⌝ }
 {
-    if octets::get_u8(part, 8) != format {
+    if !has_value(part, value) {
         return false;
     }
-    has_value(part, value)
+    octets::get_u8(part, 8) == format
 }
 
 fn is_identifying(part: &[u8], format: u8, value: [u8; 8]) -> bool

@@ -1,6 +1,7 @@
--- The format, and then the value.
+-- The value, and then the format.
+use mathlib.Core.Bool.{and-true, and-false}
 use borrow.Author.Needs.{needs}
-use borrow.Author.Tests.{ne-eqb, eq-eqb}
+use borrow.Author.Tests.{not-true, not-false}
 use Rattle.model.specs.Checks.{presents}
 use Rattle.site.proofs.lookup.is_presented.Statement.{statement}
 use Rattle.site.proofs.lookup.is_presented.Tie as tie
@@ -11,6 +12,6 @@ is-presented-spec =
     tie.close
     (tie.spec
     (λ c κs. search needs)
-    (λ c. rw (← c .before .get-u8 .ensures, ne-eqb _ _ (c .if1 .taken)))
+    (λ c. rw (← c .before .has-value .ensures, not-true (c .before .has-value .result) (c .if1 .taken)) (simp and-false))
     (λ c κs. search needs)
-    (λ c. rw (← c .before .before .get-u8 .ensures, eq-eqb _ _ (c .before .if1 .left)) (c .has-value .ensures)))
+    (λ c. rw (← c .before .before .has-value .ensures, not-false (c .before .before .has-value .result) (c .before .if1 .left), c .get-u8 .ensures) (simp and-true)))
