@@ -16,8 +16,8 @@ fn run_from_fresh(site: &[u8], journal: &[u8], state: &mut [u8], answers: &mut [
     ensures { λ r. ⌜ r ≡ fromFresh (now (site .entry)) (now (journal .entry)) .returned ⌝ }
     ensures { λ r. ⌜ (isWorked r ≡ true → now (answers .exit) ≡ fromFresh (now (site .entry)) (now (journal .entry)) .answers) ⌝ }
 {
-    panel::fresh_state(site, state);
-    panel::run_journal(site, state, journal, answers)
+    view::fresh_state(site, state);
+    view::run_journal(site, state, journal, answers)
 }
 
 // The printed journal, at the head of the text. Returns how long it is.

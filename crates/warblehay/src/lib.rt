@@ -23,7 +23,7 @@ pub extern "C" fn warblehay_check_site(site: &[u8]) -> u32
 pub extern "C" fn warblehay_fresh_state(site: &[u8], state: &mut [u8]) -> u32
     ensures { λ r. ⌜ (r ≡ number (freshState (now (site .entry)) (now (state .entry)) .returned)) × (now (state .exit) ≡ freshState (now (site .entry)) (now (state .entry)) .state) ⌝ }
 {
-    panel::number_of(panel::fresh_state(site, state))
+    panel::number_of(view::fresh_state(site, state))
 }
 
 #[no_mangle]
@@ -35,7 +35,7 @@ pub extern "C" fn warblehay_run_journal(
 ) -> u32
     ensures { λ r. ⌜ (r ≡ number (runJournal (now (site .entry)) (now (state .entry)) (now (journal .entry)) (now (answers .entry)) .returned)) × (now (state .exit) ≡ runJournal (now (site .entry)) (now (state .entry)) (now (journal .entry)) (now (answers .entry)) .state) × (now (answers .exit) ≡ runJournal (now (site .entry)) (now (state .entry)) (now (journal .entry)) (now (answers .entry)) .answers) ⌝ }
 {
-    panel::number_of(panel::run_journal(site, state, journal, answers))
+    panel::number_of(view::run_journal(site, state, journal, answers))
 }
 
 fn place_number(place: Place) -> usize

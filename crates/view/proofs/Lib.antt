@@ -1,0 +1,3 @@
+pub mod Meets
+pub mod View
+pub mod Viewed

@@ -1,0 +1,29 @@
+-- `view::find_factor_in` meets its contract: its MIR is `View.antt`'s `finds` at `find_factor`, and it says what `find_factor` says. All that the proof knows of that is that it meets its contract.
+use base.Logic.{id⊢}
+use contract.Running.{givenOf, tables, tablesOf}
+use denote.Struct.Laws as LL
+use denote.Triple.Spec.{tripleOf}
+use denote.Triple.Table.{entered, cited}
+use Rattle.view.proofs.View.{found}
+use Rattle.view.proofs.Presented as P
+use Rattle.view.proofs.Presented.Laws as P′
+use Rattle.view.proofs.find_factor as callee
+use Rattle.view.proofs.find_factor.Symbol as callee-def
+use Rattle.view.proofs.find_factor.Symbol.{name as #view·find-factor}
+use Rattle.view.proofs.find_factor.Met as callee-thm
+use Rattle.view.proofs.find_factor_in.Key.{name as #view·find-factor-in}
+use Rattle.view.proofs.find_factor_in as find-factor-in
+use Rattle.view.proofs.find_factor_in.Statement as stated
+use Rattle.view.proofs.find_factor_in.Code as code
+
+pub find-factor-in-spec : {M : Type 1} → stated.statement M
+unfolding code.routine tablesOf
+find-factor-in-spec 𝓤 H 𝓜 𝓖 𝓡 =
+    entered 𝓤 H (tripleOf 𝓤 H (𝓖 .A) find-factor-in.signature (find-factor-in.spec 𝓤 H (𝓖 .A) (𝓜 .mem) (𝓡 .run)))
+    (tables 𝓤 H 𝓜 𝓡 code.env .C) (tables 𝓤 H 𝓜 𝓡 code.env .Λ) #view·find-factor-in code.function (code.unfolded 𝓤 H 𝓜 𝓡)
+    (found 𝓤 H (𝓖 .A) (givenOf 𝓤 H 𝓜 𝓖) P.the-row (LL.val P.the-type P′.the-laws) (LL.tells P.the-type P′.the-laws) P′.mir (λ p is. LL.lawful P.the-type P′.the-laws 𝓤 H (𝓖 .A) (givenOf 𝓤 H 𝓜 𝓖) .typed p _ is .0)
+    (callee.spec 𝓤 H (𝓖 .A) (𝓜 .mem) (𝓡 .run)) (λ κs a. find-factor-in.spec 𝓤 H (𝓖 .A) (𝓜 .mem) (𝓡 .run) κs a .ensures)
+    -- what the callee ensures of the bytes is what `find_factor_in` ensures of the view
+    (λ κs a g x. id⊢ 𝓤 _)
+    (tablesOf 𝓤 H 𝓜 (tables 𝓤 H 𝓜 𝓡 code.env)) #view·find-factor
+    (cited 𝓤 H (tripleOf 𝓤 H (𝓖 .A) callee.signature (callee.spec 𝓤 H (𝓖 .A) (𝓜 .mem) (𝓡 .run))) 𝓜 𝓡 code.env #view·find-factor callee-def.routine code.calls-view·find-factor (callee-thm.met 𝓤 H 𝓜 𝓖 𝓡)))
