@@ -1,5 +1,6 @@
 //! Times of the proved engine and of the reference on the largest site with the largest journal.
-//! It asserts only that the engines agree, no time.
+//! It asserts only that the engines agree, no time. An argument is another number of repetitions:
+//! with 1, `valgrind --tool=callgrind` counts the instructions of one run.
 
 use differential::proved::PROVED;
 use reference::build::{
@@ -17,6 +18,11 @@ use std::time::{Duration, Instant};
 const RECORDS: usize = MOST_SITE_BYTES / RECORD_LENGTH;
 const ENTRIES: usize = MOST_JOURNAL_BYTES / ENTRY_LENGTH;
 const REPETITIONS: usize = 21;
+
+fn repetitions() -> usize {
+    let argument = std::env::args().nth(1);
+    argument.map_or(REPETITIONS, |number| number.parse().expect("a number"))
+}
 
 const ZONES: u32 = 20;
 const POINTS: u32 = 40;
@@ -178,14 +184,14 @@ fn print_row(site: &str, call: &str, medians: [Duration; 2]) {
     println!("{site:<18}{call:<16}{proved:>8.3} ms{reference:>9.3} ms{ratio:>8.2}");
 }
 
-fn bench(shape: &Shape) {
+fn bench(shape: &Shape, repetitions: usize) {
     let (site, journal) = (site(shape), reads(shape));
     assert_eq!(site.len(), MOST_SITE_BYTES);
     assert_eq!(journal.len(), MOST_JOURNAL_BYTES);
     let mut proved = Bench::new(PROVED, &site, &journal);
     let mut reference = Bench::new(REFERENCE, &site, &journal);
     // In turn, so that a busy machine slows both.
-    let times: Vec<_> = (0..REPETITIONS)
+    let times: Vec<_> = (0..repetitions)
         .map(|_| (proved.time(), reference.time()))
         .collect();
     assert!(proved.state == reference.state && proved.answers == reference.answers);
@@ -204,8 +210,9 @@ fn bench(shape: &Shape) {
 }
 
 fn main() {
+    let repetitions = repetitions();
     println!(
-        "{RECORDS} records, {ENTRIES} entries; medians of {REPETITIONS}, the engines in turn."
+        "{RECORDS} records, {ENTRIES} entries; medians of {repetitions}, the engines in turn."
     );
     println!(
         "Buffers were reset before each run_journal, outside its time: the state to fresh, the"
@@ -215,5 +222,7 @@ fn main() {
         "{:<18}{:<16}{:>11}{:>12}{:>8}",
         "site", "call", "proved", "reference", "ratio"
     );
-    SHAPES.iter().for_each(bench);
+    for shape in &SHAPES {
+        bench(shape, repetitions);
+    }
 }
