@@ -7,7 +7,7 @@ use mathlib.Core.Bool.{Bool, true, false, not, _&&_}
 use lib.Dec.{eqb, ltb}
 use lib.ListN.{length, take, drop, getD, set, length-append, length-take, length-drop}
 use lib.Seq.{take-at, drop-at, take-add, drop-drop, length-take-le}
-use borrow.Author.Tests.{lt-ltb, not-true}
+use borrow.Author.Tests.{ltb-true, lt-ltb, not-true}
 use Rattle.octets.specs.Octets.{groups, withPart}
 use Rattle.octets.proofs.Groups.{joined-back}
 use Rattle.model.specs.Words.{if_then_else_}
@@ -21,7 +21,7 @@ use Rattle.site.specs.Place.{placeOf}
 use Rattle.site.proofs.Places.{place-found}
 use Rattle.site.proofs.Panels as Panels
 use Rattle.site.proofs.Records.{length-records}
-use Rattle.journal.specs.Places.{partAt, seekPlace, stored, written, applied, Placed}
+use Rattle.journal.specs.Places.{partAt, seekPlace, placeBelow, writePlace, stored, written, applied, Placed}
 use Rattle.site.specs.declared.Place.{Place}
 use Rattle.site.specs.declared.Place.the-variants.{At, Nothing}
 use Rattle.journal.specs.declared.Places.{Places}
@@ -85,7 +85,8 @@ module _ (site state : List ℕ) (whole-site : length site % 32 ≡ 0) (same-len
 
   -- A record of 32 bytes stored at its place is stored in the panel; the state keeps its length.
   store-at : (k i : ℕ) (b : List ℕ) → length b ≡ 32 → (p : Place) → placeOf k i site ≡ p →
-      (panel site (stored p b state) ≡ store k i b (panel site state)) × (length (stored p b state) ≡ length site)
+      (panel site (stored (placeBelow (length state / 32) p) b state) ≡ store k i b (panel site state))
+      × (length (stored (placeBelow (length state / 32) p) b state) ≡ length site)
   store-at k i b l (At j) e =
       let h = in-site k i j e in
       let t : ltb j (length state / 32) ≡ true = lt-ltb j (length state / 32) (omega arith) in
@@ -98,11 +99,12 @@ module _ (site state : List ℕ) (whole-site : length site % 32 ≡ 0) (same-len
 
   pub write-at : (on : Bool) (k i : ℕ) (b : List ℕ) (p : Place) → length b ≡ 32 → (eqb i NONE ≡ false → p ≡ placeOf k i site) →
       (panel site (written on i p b state) ≡ write on k i b (panel site state)) × (length (written on i p b state) ≡ length site)
-  unfolding written write
+  unfolding written writePlace write
   write-at on k i b p l e = go (on && not (eqb i NONE)) refl
     where
       go : (c : Bool) → on && not (eqb i NONE) ≡ c →
-          (panel site (if c then stored p b state else state) ≡ (if c then store k i b (panel site state) else panel site state)) × (length (if c then stored p b state else state) ≡ length site)
+          (panel site (stored (if c then placeBelow (length state / 32) p else Nothing) b state) ≡ (if c then store k i b (panel site state) else panel site state))
+          × (length (stored (if c then placeBelow (length state / 32) p else Nothing) b state) ≡ length site)
       go true h =
           rw (e (not-true (eqb i NONE) (and-right on (not (eqb i NONE)) h))) (store-at k i b l (placeOf k i site) refl)
       go false h = (refl, same-length)
@@ -126,3 +128,17 @@ state-of site state w l = go (length site / 32) site state (omega arith)
   where
     go : (k : ℕ) (site state : List ℕ) → length state ≡ k * 32 → stateOf (paired k site state) ≡ state
     go k site state h = ap flatten (states k site state) ∙ joined-back 32 k state h
+
+-- A write is made among the records of the state.
+pub write-below : (on : Bool) (i n j : ℕ) (p : Place) → writePlace on i p n ≡ At j → j < n
+unfolding writePlace
+write-below on i n j p e = go (on && not (eqb i NONE)) p e
+  where
+    below : (k : ℕ) (c : Bool) → ltb k n ≡ c → (if c then At k else Nothing) ≡ At j → j < n
+    below k true t e = let s : k ≡ j = cc in rw s at (ltb-true k n t)
+    below k false t e = let z : n ≡ suc j = cc in omega (arith, z)
+
+    go : (c : Bool) (p : Place) → (if c then placeBelow n p else Nothing) ≡ At j → j < n
+    go true (At k) e = below k (ltb k n) refl e
+    go true Nothing e = let z : n ≡ suc j = cc in omega (arith, z)
+    go false p e = let z : n ≡ suc j = cc in omega (arith, z)

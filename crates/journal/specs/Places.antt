@@ -25,14 +25,21 @@ partAt Nothing bytes = []
 unfoldable pub seekPlace : ℕ → ℕ → List ℕ → Place
 seekPlace k i site = if eqb i NONE then Nothing else placeOf k i site
 
+-- Where a write is made: at its place, where the flag is set, the instance is not NONE and the place is among those of n records.
+abbrev pub placeBelow : ℕ → Place → Place
+placeBelow n (At j) = if ltb j n then At j else Nothing
+placeBelow n Nothing = Nothing
+
+unfoldable pub writePlace : Bool → ℕ → Place → ℕ → Place
+writePlace on i place n = if on && not (eqb i NONE) then placeBelow n place else Nothing
+
 -- The state with the record at a place made `b`.
 abbrev pub stored : Place → List ℕ → List ℕ → List ℕ
-stored (At i) b state = if ltb i (length state / n.record-size) then withPart n.record-size i b state else state
+stored (At j) b state = withPart n.record-size j b state
 stored Nothing b state = state
 
--- The same where the flag is set and the instance is not NONE.
 unfoldable pub written : Bool → ℕ → Place → List ℕ → List ℕ → List ℕ
-written on i place b state = if on && not (eqb i NONE) then stored place b state else state
+written on i place b state = stored (writePlace on i place (length state / n.record-size)) b state
 
 -- The state after an outcome whose records stand at those places.
 unfoldable pub applied : Outcome → Places → List ℕ → List ℕ

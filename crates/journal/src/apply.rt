@@ -4,7 +4,7 @@ ghost use Prim.Native.Nat.{_/_, _<_};
 ghost use lib.ListN.{length};
 ghost use Rattle.octets.specs.Octets.{withPart};
 ghost use Rattle.model.specs.State.{zoneBytes, pointBytes, credentialBytes};
-ghost use Rattle.journal.specs.Places.{written, applied};
+ghost use Rattle.journal.specs.Places.{writePlace, written, applied};
 use super::Places;
 use model::CountWrite;
 use model::CredentialState;
@@ -12,7 +12,7 @@ use model::CredentialWrite;
 use model::Outcome;
 use model::PointState;
 use model::PointWrite;
-use model::numbers;
+use model::numbers::NONE;
 use model::numbers::RECORD_SIZE;
 use site::Place;
 
@@ -43,18 +43,29 @@ fn store_credential(state: &mut [u8], i: usize, c: CredentialState)
     records::write_credential(&mut state[start..end], c);
 }
 
-fn write_count(state: &mut [u8], w: CountWrite, place: Place)
-    ensures { λ _. ⌜ now (state .exit) ≡ written (w .written) (w .instance) place (zoneBytes (w .count)) (now (state .entry)) ⌝ }
+// Where a write is made: at its place, if there is one among the n records of the state.
+fn write_place(written: bool, instance: u32, place: Place, n: usize) -> Place
+    ensures { λ r. ⌜ r ≡ writePlace written instance place n ⌝ }
 {
-    if !(w.written & !(w.instance == numbers::NONE)) {
-        return;
+    if !(written & (instance != NONE)) {
+        return Place::Nothing;
     }
     match place {
         Place::At(i) => {
-            if i < state.len() / RECORD_SIZE {
-                store_count(state, i, w.count);
+            if i < n {
+                return Place::At(i);
             }
+            Place::Nothing
         }
+        Place::Nothing => Place::Nothing,
+    }
+}
+
+fn write_count(state: &mut [u8], w: CountWrite, place: Place)
+    ensures { λ _. ⌜ now (state .exit) ≡ written (w .written) (w .instance) place (zoneBytes (w .count)) (now (state .entry)) ⌝ }
+{
+    match write_place(w.written, w.instance, place, state.len() / RECORD_SIZE) {
+        Place::At(i) => store_count(state, i, w.count),
         Place::Nothing => {}
     }
 }
@@ -62,16 +73,9 @@ fn write_count(state: &mut [u8], w: CountWrite, place: Place)
 fn write_credential(state: &mut [u8], w: CredentialWrite, place: Place)
     ensures { λ _. ⌜ now (state .exit) ≡ written (w .written) (w .instance) place (credentialBytes (w .state)) (now (state .entry)) ⌝ }
 {
-    if !(w.written & !(w.instance == numbers::NONE)) {
-        return;
-    }
-    match place {
-        Place::At(i) => {
-            if i < state.len() / RECORD_SIZE {
-                let c = w.state;
-                store_credential(state, i, c);
-            }
-        }
+    let c = w.state;
+    match write_place(w.written, w.instance, place, state.len() / RECORD_SIZE) {
+        Place::At(i) => store_credential(state, i, c),
         Place::Nothing => {}
     }
 }
@@ -79,16 +83,9 @@ fn write_credential(state: &mut [u8], w: CredentialWrite, place: Place)
 fn write_point(state: &mut [u8], w: PointWrite, place: Place)
     ensures { λ _. ⌜ now (state .exit) ≡ written (w .written) (w .instance) place (pointBytes (w .state)) (now (state .entry)) ⌝ }
 {
-    if !(w.written & !(w.instance == numbers::NONE)) {
-        return;
-    }
-    match place {
-        Place::At(i) => {
-            if i < state.len() / RECORD_SIZE {
-                let p = w.state;
-                store_point(state, i, p);
-            }
-        }
+    let p = w.state;
+    match write_place(w.written, w.instance, place, state.len() / RECORD_SIZE) {
+        Place::At(i) => store_point(state, i, p),
         Place::Nothing => {}
     }
 }
