@@ -85,7 +85,7 @@ fn factor_decided(site: &[u8], state: &[u8], e: Entry, place: Place) -> Decided
             place,
         );
     }
-    let g = gather(site, state, e, place);
+    let g = gather(site, state, e, place, point);
     let v = g.view;
     let at = g.places;
     let rules = rules_for(site, v, e);

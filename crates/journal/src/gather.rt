@@ -6,13 +6,14 @@ ghost use Prim.Native.Nat.{_/_};
 ghost use lib.ListN.{length, getD};
 ghost use Rattle.octets.specs.Octets.{groups};
 ghost use Rattle.model.specs.Words.{missing};
-ghost use Rattle.model.specs.Site.{records};
+ghost use Rattle.model.specs.Site.{records, pointOf};
 ghost use Rattle.model.specs.Checks.{factorFor, credentialRead};
 ghost use Rattle.journal.specs.Places.{partAt, seekPlace};
 ghost use Rattle.journal.specs.Gather.{gathered};
 use super::Gathered;
 use super::Places;
 use model::Entry;
+use model::Point;
 use model::View;
 use model::numbers;
 use model::numbers::ACCESS_CREDENTIAL;
@@ -81,11 +82,11 @@ fn credential_read(waiting: u32, factor: &[u8]) -> u32
     records::instance_of(factor)
 }
 
-// The view of a factor read at the point that stands at a place.
-pub fn gather(site: &[u8], state: &[u8], e: Entry, place: Place) -> Gathered
+// The view of a factor read at a point, which stands at a place.
+pub fn gather(site: &[u8], state: &[u8], e: Entry, place: Place, point: Point) -> Gathered
+    requires { ⌜ point ≡ pointOf (partAt place (now site)) ⌝ }
     ensures { λ r. ⌜ r ≡ gathered place e (now (site .entry)) (now (state .entry)) ⌝ }
 {
-    let point = records::point_of(part_at(site, place));
     let point_state = records::point_state_of(part_at(state, place));
     let factor = factor_for(site, point_state.waiting_credential, e);
     let number = credential_read(point_state.waiting_credential, factor);

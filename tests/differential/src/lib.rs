@@ -13,7 +13,7 @@
 //! WARBLEHAY_LIB_DIR and WARBLEHAY_BIN_DIR other places of the library and of the program. Where CI
 //! is set, the program must be there.
 
-#![deny(unsafe_code)]
+#![forbid(unsafe_code)]
 
 pub mod compare;
 pub mod proved;

@@ -2,6 +2,7 @@
 //! the call that is turned back. The program in `c/print_answers.c`, for a panel maker who writes
 //! Rust.
 
+use linked::{fresh_state, run_journal};
 use std::process::ExitCode;
 use std::{env, fs, io};
 
@@ -11,50 +12,12 @@ const ANSWER_SIZE: usize = 16;
 
 const WORKED_THROUGH: u32 = 0;
 
-// Each slice passes as a pointer and then a length.
-extern "C" {
-    fn warblehay_fresh_state(
-        site: *const u8,
-        site_length: usize,
-        state: *mut u8,
-        state_length: usize,
-    ) -> u32;
-
-    fn warblehay_run_journal(
-        site: *const u8,
-        site_length: usize,
-        state: *mut u8,
-        state_length: usize,
-        journal: *const u8,
-        journal_length: usize,
-        answers: *mut u8,
-        answers_length: usize,
-    ) -> u32;
-}
-
 /// The answers, or the number of the call that is turned back.
 fn answers(site: &[u8], journal: &[u8]) -> Result<Vec<u8>, u32> {
     let mut state = vec![0; site.len()];
     let mut answers = vec![0; journal.len() / ENTRY_SIZE * ANSWER_SIZE];
-    // SAFETY: live slices, and those that are written are apart from all others.
-    let fresh = unsafe {
-        warblehay_fresh_state(site.as_ptr(), site.len(), state.as_mut_ptr(), state.len())
-    };
-    worked_through(fresh)?;
-    // SAFETY: as above.
-    let run = unsafe {
-        warblehay_run_journal(
-            site.as_ptr(),
-            site.len(),
-            state.as_mut_ptr(),
-            state.len(),
-            journal.as_ptr(),
-            journal.len(),
-            answers.as_mut_ptr(),
-            answers.len(),
-        )
-    };
-    worked_through(run)?;
+    worked_through(fresh_state(site, &mut state))?;
+    worked_through(run_journal(site, &mut state, journal, &mut answers))?;
     Ok(answers)
 }
 

@@ -25,6 +25,9 @@ returns c =
     (ap (λ (p : PointState). p .tag) (c .before .before .before .point-state-of .ensures ∙ ap pointStateOf (c .before .before .before .before .part-at2 .ensures .0)))
     (c .before .before .count-to .ensures)))
 
+gather-requires : tie.Need-gather-requires
+gather-requires c κs = c .before .point-of .ensures ∙ ap pointOf (c .before .before .part-at .ensures .0)
+
 returns-2 : tie.Need-returns-2
 returns-2 c =
     let s = c .before .before .before .before .before .before .before .before .before .before in
@@ -41,5 +44,6 @@ factor-decided-spec =
     (λ c κs. search needs) (λ c κs. search needs) (λ c κs. search needs) (λ c κs. search needs) (λ c κs. search needs)
     (λ c κs. search needs) (λ c κs. search needs)
     returns
-    (λ c κs. search needs) (λ c κs. search needs) (λ c κs. search needs)
+    gather-requires
+    (λ c κs. search needs) (λ c κs. search needs)
     returns-2)

@@ -1,3 +1,4 @@
+use mathlib.Core.Path.{refl}
 use denote.Ref.{now}
 use Rattle.journal.proofs.Views.{gathered-from}
 use borrow.Author.Needs.{needs}
@@ -9,30 +10,34 @@ factor-disable-of-requires c κs = c .before .before .before .before .before .be
 
 returns : tie.Need-returns
 returns c =
-    let a = c .before .before .before .before .before .before .before .before .before .before .before .before .before .before .before .before .before .before .before .before .before .before .before .before .before .args in
+    let f = c .before .before .before .before in
+    let z = f .before .before .before .before .before .before .before .before .before in
+    let p = z .before .before .before .before .before .before .before in
+    let s = p .before .before .before in
+    let a = s .args in
     gathered-from (a .place) (a .e) (now (a .site)) (now (a .state))
-    (c .before .before .before .before .before .before .before .before .before .before .before .before .before .before .before .before .before .before .before .before .before .before .part-at .ensures .0)
-    (c .before .before .before .before .before .before .before .before .before .before .before .before .before .before .before .before .before .before .before .before .before .point-of .ensures)
-    (c .before .before .before .before .before .before .before .before .before .before .before .before .before .before .before .before .before .before .before .before .part-at2 .ensures .0)
-    (c .before .before .before .before .before .before .before .before .before .before .before .before .before .before .before .before .before .before .before .point-state-of .ensures)
-    (c .before .before .before .before .before .before .before .before .before .before .before .before .before .before .before .before .before .before .factor-for .ensures .0)
-    (c .before .before .before .before .before .before .before .before .before .before .before .before .before .before .before .before .before .credential-read .ensures)
-    (c .before .before .before .before .before .before .before .before .before .before .before .before .before .before .before .before .seek-place .ensures)
-    (c .before .before .before .before .before .before .before .before .before .before .before .before .before .before .before .seek-place2 .ensures)
-    (c .before .before .before .before .before .before .before .before .before .before .before .before .before .before .seek-place3 .ensures)
-    (c .before .before .before .before .before .before .before .before .before .before .before .before .before .part-at3 .ensures .0)
-    (c .before .before .before .before .before .before .before .before .before .before .before .before .zone-of .ensures)
-    (c .before .before .before .before .before .before .before .before .before .before .before .part-at4 .ensures .0)
-    (c .before .before .before .before .before .before .before .before .before .before .count-of .ensures)
-    (c .before .before .before .before .before .before .before .before .before .part-at5 .ensures .0)
-    (c .before .before .before .before .before .before .before .before .zone-of2 .ensures)
-    (c .before .before .before .before .before .before .before .part-at6 .ensures .0)
-    (c .before .before .before .before .before .before .count-of2 .ensures)
-    (c .before .before .before .before .before .is-found .ensures)
-    (c .before .before .before .before .factor-disable-of .ensures)
-    (c .before .before .before .part-at7 .ensures .0)
+    refl
+    (s .pre)
+    (p .part-at .ensures .0)
+    (z .before .before .before .before .before .before .point-state-of .ensures)
+    (z .before .before .before .before .before .factor-for .ensures .0)
+    (z .before .before .before .before .credential-read .ensures)
+    (z .before .before .before .seek-place .ensures)
+    (z .before .before .seek-place2 .ensures)
+    (z .before .seek-place3 .ensures)
+    (z .part-at2 .ensures .0)
+    (f .before .before .before .before .before .before .before .before .zone-of .ensures)
+    (f .before .before .before .before .before .before .before .part-at3 .ensures .0)
+    (f .before .before .before .before .before .before .count-of .ensures)
+    (f .before .before .before .before .before .part-at4 .ensures .0)
+    (f .before .before .before .before .zone-of2 .ensures)
+    (f .before .before .before .part-at5 .ensures .0)
+    (f .before .before .count-of2 .ensures)
+    (f .before .is-found .ensures)
+    (f .factor-disable-of .ensures)
+    (c .before .before .before .part-at6 .ensures .0)
     (c .before .before .credential-of .ensures)
-    (c .before .part-at8 .ensures .0)
+    (c .before .part-at7 .ensures .0)
     (c .credential-state-of .ensures)
 
 pub gather-spec : {M : Type 1} → statement M
@@ -42,7 +47,7 @@ gather-spec =
     (λ c κs. search needs) (λ c κs. search needs) (λ c κs. search needs) (λ c κs. search needs) (λ c κs. search needs)
     (λ c κs. search needs) (λ c κs. search needs) (λ c κs. search needs) (λ c κs. search needs) (λ c κs. search needs)
     (λ c κs. search needs) (λ c κs. search needs) (λ c κs. search needs) (λ c κs. search needs) (λ c κs. search needs)
-    (λ c κs. search needs) (λ c κs. search needs) (λ c κs. search needs)
+    (λ c κs. search needs)
     factor-disable-of-requires
     (λ c κs. search needs) (λ c κs. search needs) (λ c κs. search needs) (λ c κs. search needs)
     returns)

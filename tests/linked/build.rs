@@ -1,4 +1,4 @@
-//! Links the proved library, which `bash library/build` writes. The package `linked` uses it too.
+//! Links the proved library, which `bash library/build` writes.
 
 use std::env;
 use std::path::{Path, PathBuf};
