@@ -17,5 +17,6 @@
 
 pub mod compare;
 pub mod proved;
-pub mod settings;
 pub mod small;
+
+pub use reference::settings;

@@ -21,6 +21,7 @@ pub mod one_point;
 pub mod print;
 mod rights;
 pub mod scenarios;
+pub mod settings;
 pub mod site;
 pub mod state;
 pub mod time;

@@ -1,6 +1,6 @@
-//! What the environment sets for the random tests, and how they print.
+//! What the environment sets for the random tests of all packages, and how they print.
 
-use reference::generate::Random;
+use crate::generate::Random;
 use std::fmt::Display;
 use std::io::{self, Write};
 use std::str::FromStr;

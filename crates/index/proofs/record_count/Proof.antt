@@ -1,9 +1,9 @@
 -- There are as many records as groups.
 use mathlib.Core.Path.{sym, _∙_}
 use denote.Ref.{now}
-use Rattle.site.proofs.Records.{length-records}
-use Rattle.site.proofs.lookup.record_count.Statement.{statement}
-use Rattle.site.proofs.lookup.record_count.Tie as tie
+use Rattle.index.proofs.Building.{length-records}
+use Rattle.index.proofs.record_count.Statement.{statement}
+use Rattle.index.proofs.record_count.Tie as tie
 
 returns : tie.Need-returns
 returns c = c .group-count .ensures ∙ sym (length-records (now (c .before .before .args .site)))

@@ -2,9 +2,9 @@
 use native.Mathlib.Omega.{arith}
 use denote.Ref.{now}
 use Rattle.model.specs.Site.{records}
-use Rattle.site.proofs.Records.{length-records}
-use Rattle.site.proofs.lookup.record_at.Statement.{statement}
-use Rattle.site.proofs.lookup.record_at.Tie as tie
+use Rattle.index.proofs.Building.{length-records}
+use Rattle.index.proofs.record_at.Statement.{statement}
+use Rattle.index.proofs.record_at.Tie as tie
 
 group-requires : tie.Need-group-requires
 group-requires c κs = omega (arith, length-records (now (c .before .args .site)))

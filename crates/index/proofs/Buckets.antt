@@ -1,0 +1,111 @@
+-- What is looked up is in the bucket in which it is sought.
+use Prim.Native.Nat.{ℕ, _+_}
+use mathlib.Core.Path.{_≡_, refl, sym, ap, _∙_}
+use mathlib.Core.List.{List}
+use mathlib.Core.Bool.{Bool, true, false, _&&_, _||_}
+use native.Mathlib.Omega.{arith}
+use lib.Dec.{eqb}
+use borrow.Author.Tests.{eqb-true, ne-eqb}
+use Rattle.octets.specs.Octets.{field, same}
+use Rattle.octets.proofs.Laws.{field-part, same-eq, same-refl}
+use Rattle.model.specs.Words.{if_then_else_}
+use Rattle.model.specs.Numbers.{access-rule, authentication-factor, role-identifying, role-confirming}
+use Rattle.model.specs.Site.{kind, instance, role, format, value, isAt}
+use Rattle.model.specs.Checks.{presents, identifying, confirming}
+use Rattle.model.specs.Accept.{twinFactors, twins}
+use Rattle.model.proofs.Laws.{and-left, and-right}
+use Rattle.index.specs.Index.{objectBucket, factorBucket, owner, bucketOf}
+
+-- The two words of a value.
+words : (s read : List ℕ) → same (value s) read ≡ true → (field 16 4 s ≡ field 0 4 read) × (field 20 4 s ≡ field 4 4 read)
+words s read e =
+    let v : value s ≡ read = same-eq (value s) read .0 e in
+    (sym (field-part 0 4 16 8 s (omega arith)) ∙ ap (field 0 4) v, sym (field-part 4 4 16 8 s (omega arith)) ∙ ap (field 4 4) v)
+
+-- A zone, a point or a credential.
+pub object-bucket : (k i : ℕ) → (k ≡ access-rule → ⊥) → (k ≡ authentication-factor → ⊥) → (s : List ℕ) → isAt k i s ≡ true → bucketOf s ≡ objectBucket k i
+unfolding bucketOf
+object-bucket k i m n s e =
+    let p : kind s ≡ k = eqb-true (kind s) k (and-left (eqb (kind s) k) (eqb (instance s) i) e) in
+    let q : instance s ≡ i = eqb-true (instance s) i (and-right (eqb (kind s) k) (eqb (instance s) i) e) in
+    rw (p, q, ne-eqb k authentication-factor n, ne-eqb k access-rule m)
+
+-- A factor of a format, a value and an owner.
+factor-bucket : (form : ℕ) (read : List ℕ) (who : ℕ) (s : List ℕ) → eqb (kind s) authentication-factor ≡ true → presents form read s ≡ true
+    → owner s ≡ who → bucketOf s ≡ factorBucket form (field 0 4 read) (field 4 4 read) who
+unfolding bucketOf presents
+factor-bucket form read who s k p o =
+    let w = words s read (and-right (eqb (format s) form) (same (value s) read) p) in
+    let f : format s ≡ form = eqb-true (format s) form (and-left (eqb (format s) form) (same (value s) read) p) in
+    rw (k, f, w .0, w .1, o)
+
+pub identifying-bucket : (form : ℕ) (read : List ℕ) (s : List ℕ) → identifying form read s ≡ true
+    → bucketOf s ≡ factorBucket form (field 0 4 read) (field 4 4 read) 0
+unfolding identifying owner
+identifying-bucket form read s e =
+    let i = eqb (role s) role-identifying in
+    let r = and-right (eqb (kind s) authentication-factor) (i && presents form read s) e in
+    factor-bucket form read 0 s (and-left (eqb (kind s) authentication-factor) (i && presents form read s) e) (and-right i (presents form read s) r)
+    (rw (and-left i (presents form read s) r))
+
+pub confirming-bucket : (c form : ℕ) (read : List ℕ) (s : List ℕ) → confirming c form read s ≡ true
+    → bucketOf s ≡ factorBucket form (field 0 4 read) (field 4 4 read) c
+unfolding confirming owner
+confirming-bucket c form read s e =
+    let i = eqb (role s) role-confirming in
+    let a = and-left (isAt authentication-factor c s) (i && presents form read s) e in
+    let r = and-right (isAt authentication-factor c s) (i && presents form read s) e in
+    let o : role s ≡ role-confirming = eqb-true (role s) role-confirming (and-left i (presents form read s) r) in
+    let n : instance s ≡ c = eqb-true (instance s) c (and-right (eqb (kind s) authentication-factor) (eqb (instance s) c) a) in
+    factor-bucket form read c s (and-left (eqb (kind s) authentication-factor) (eqb (instance s) c) a) (and-right i (presents form read s) r)
+    (rw (o, n))
+
+-- Twins share a bucket.
+twin-owner : (s t : List ℕ) → role s ≡ role t → eqb (role s) role-identifying || eqb (instance s) (instance t) ≡ true → owner t ≡ owner s
+unfolding owner
+twin-owner s t r e = rw (← r) (go (eqb (role s) role-identifying) e)
+  where
+    go : (c : Bool) → c || eqb (instance s) (instance t) ≡ true → if c then 0 else instance t ≡ if c then 0 else instance s
+    go true h = refl
+    go false h = sym (eqb-true (instance s) (instance t) h)
+
+twin-factors : (s t : List ℕ) → eqb (kind t) authentication-factor ≡ true → twinFactors s t ≡ true
+    → bucketOf t ≡ factorBucket (format s) (field 16 4 s) (field 20 4 s) (owner s)
+unfolding bucketOf twinFactors
+twin-factors s t k e =
+    let r = eqb (role s) (role t) in
+    let f = eqb (format s) (format t) in
+    let v = same (value s) (value t) in
+    let o = eqb (role s) role-identifying || eqb (instance s) (instance t) in
+    let rfv = and-left (r && f && v) o e in
+    let rf = and-left (r && f) v rfv in
+    let w = words s (value t) (and-right (r && f) v rfv) in
+    let x = words t (value t) (same-refl (value t)) in
+    rw (
+      k,
+      twin-owner s t (eqb-true (role s) (role t) (and-left r f rf)) (and-right (r && f && v) o e),
+      ← eqb-true (format s) (format t) (and-right r f rf),
+      x .0,
+      x .1,
+      ← w .0,
+      ← w .1,
+    )
+
+pub twins-bucket : (s t : List ℕ) → twins s t ≡ true → bucketOf t ≡ bucketOf s
+unfolding twins bucketOf
+twins-bucket s t e = sym (go (eqb (kind s) authentication-factor) refl (eqb (kind s) access-rule) refl (and-right same-kind rest e))
+  where
+    same-kind : Bool
+    same-kind = eqb (kind s) (kind t)
+
+    rest : Bool
+    rest = if eqb (kind s) access-rule then false else if eqb (kind s) authentication-factor then twinFactors s t else eqb (instance s) (instance t)
+
+    alike : kind s ≡ kind t
+    alike = eqb-true (kind s) (kind t) (and-left same-kind rest e)
+
+    go : (c : Bool) → eqb (kind s) authentication-factor ≡ c → (d : Bool) → eqb (kind s) access-rule ≡ d →
+        if d then false else if c then twinFactors s t else eqb (instance s) (instance t) ≡ true → bucketOf s ≡ bucketOf t
+    go c p true q h = cc
+    go true p false q h = rw p (sym (twin-factors s t (rw (← alike) p) h))
+    go false p false q h = rw (p, q, ← alike, p, q, eqb-true (instance s) (instance t) h)

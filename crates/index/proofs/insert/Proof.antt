@@ -1,0 +1,28 @@
+-- The two stores put the record before the others of its bucket.
+use mathlib.Core.Path.{_∙_, ap}
+use native.Mathlib.Omega.{arith}
+use borrow.Author.Needs.{needs}
+use lib.ListN.{length-set}
+use denote.Ref.{now}
+use Rattle.model.specs.Site.{records}
+use Rattle.index.specs.Index.{bucketOf}
+use Rattle.index.proofs.Building.{inserted}
+use Rattle.index.proofs.insert.Statement.{statement}
+use Rattle.index.proofs.insert.Tie as tie
+
+returns : tie.Need-returns
+returns c =
+    let s = c .before .before .before .before .before in
+    let b = c .before .bucket-of in
+    inserted (s .args .i) (records (now (s .args .site))) (now (s .args .index)) (s .pre .1) (b .result)
+    (b .ensures .0 ∙ ap bucketOf (c .before .before .record-at .ensures .0)) (b .ensures .1) (s .pre .0)
+
+pub insert-spec : {M : Type 1} → statement M
+insert-spec =
+    tie.close
+    (tie.spec
+    (λ c κs. search needs) (λ c κs. search needs)
+    (λ c. search needs) (λ c. search needs) (λ c. search needs) (λ c. search needs) (λ c. search needs) (λ c. search needs) (λ c. search needs)
+    (λ c. simp length-set (omega arith))
+    (λ c. search needs)
+    returns)

@@ -1,0 +1,18 @@
+-- The definition's own sum and remainder.
+use mathlib.Core.Path.{refl}
+use native.Mathlib.Omega.{arith}
+use borrow.Author.Needs.{needs}
+use Rattle.index.specs.Index.{spread}
+use Rattle.index.proofs.spread.Statement.{statement}
+use Rattle.index.proofs.spread.Tie as tie
+
+returns : tie.Need-returns
+unfolding spread
+returns c = (refl, omega arith)
+
+pub spread-spec : {M : Type 1} → statement M
+spread-spec =
+    tie.close
+    (tie.spec
+    (λ c. search needs) (λ c. search needs) (λ c. search needs) (λ c. search needs) (λ c. search needs) (λ c. search needs) (λ c. search needs)
+    returns)

@@ -1,0 +1,76 @@
+-- The index of a site's records: the bucket of a record, the next record of a bucket, and what the numbers of an index are.
+use Prim.Native.Nat.{ℕ, suc, _+_, _*_, _/_, _%_, _≤_, _<_}
+use mathlib.Core.Path.{_≡_}
+use mathlib.Core.List.{List, [], _∷_}
+use lib.Dec.{eqb}
+use lib.ListN.{length, drop, getD}
+use Rattle.octets.specs.Octets.{field}
+use Rattle.model.specs.Words.{if_then_else_}
+use Rattle.model.specs.Numbers.{access-rule, authentication-factor, role-identifying}
+use Rattle.model.specs.Site.{kind, instance, everywhere, locationKind, location, role, format, records}
+
+-- The most records of a site; the buckets; the numbers of an index: a link for each record, then a head for each bucket.
+abbrev pub most-records : ℕ
+most-records = 2000
+
+abbrev pub buckets : ℕ
+buckets = 1024
+
+abbrev pub index-size : ℕ
+index-size = 3024
+
+-- Three numbers spread over the buckets, and turned on by a fourth.
+unfoldable pub spread : ℕ → ℕ → ℕ → ℕ → ℕ
+spread a b c turn = ((a * 663608941 + b * 444758427 + c * 786033565) / 1048576 + turn * 204) % buckets
+
+-- A zone, a point or a credential is looked up by its kind and instance.
+abbrev pub objectBucket : ℕ → ℕ → ℕ
+objectBucket k i = spread i 0 0 k
+
+-- A rule is looked up by its rights number and its location; everywhere is location 0 of kind 0.
+abbrev pub ruleBucket : ℕ → ℕ → ℕ → ℕ
+ruleBucket rights k place = spread rights place k access-rule
+
+unfoldable pub bucketOfRule : List ℕ → ℕ
+bucketOfRule s =
+    if everywhere s then ruleBucket (instance s) 0 0 else ruleBucket (instance s) (locationKind s) (location s)
+
+-- A factor is looked up by its format and value, and one that confirms by its credential too.
+abbrev pub factorBucket : ℕ → ℕ → ℕ → ℕ → ℕ
+factorBucket form high low owner = spread low high owner (form + authentication-factor)
+
+unfoldable pub owner : List ℕ → ℕ
+owner s = if eqb (role s) role-identifying then 0 else instance s
+
+unfoldable pub bucketOf : List ℕ → ℕ
+bucketOf s =
+    if eqb (kind s) authentication-factor then factorBucket (format s) (field 16 4 s) (field 20 4 s) (owner s)
+    else if eqb (kind s) access-rule then bucketOfRule s
+    else objectBucket (kind s) (instance s)
+
+-- The number of the first record of a bucket, the first of the list counted as `from`; the number past the last where there is none.
+unfoldable pub firstFrom : ℕ → ℕ → List (List ℕ) → ℕ
+firstFrom b from [] = from
+firstFrom b from (s ∷ ss) = if eqb (bucketOf s) b then from else firstFrom b (suc from) ss
+
+-- The number of the first record of a bucket from the i-th on. The number of records ends the chain of a bucket.
+unfoldable pub nextIn : ℕ → ℕ → List (List ℕ) → ℕ
+nextIn b i ss = firstFrom b i (drop i ss)
+
+-- The number that stands for a bucket, and the one that stands for a record.
+abbrev pub head : ℕ → List ℕ → ℕ
+head b index = getD index (most-records + b) 0
+
+abbrev pub link : ℕ → List ℕ → ℕ
+link i index = getD index i 0
+
+-- The numbers of an index of the records from the k-th on: the first record of each bucket, and the next of each record's.
+pub record IndexedFrom (k : ℕ) (ss : List (List ℕ)) (index : List ℕ) : Type 0 where
+  pub size : length index ≡ index-size
+  pub few : length ss ≤ most-records
+  pub heads : (b : ℕ) → b < buckets → head b index ≡ nextIn b k ss
+  pub links : (i : ℕ) → k ≤ i → i < length ss → link i index ≡ nextIn (bucketOf (getD ss i [])) (i + 1) ss
+
+-- The index of a site.
+abbrev pub Indexed : List ℕ → List ℕ → Type 0
+Indexed site index = IndexedFrom 0 (records site) index

@@ -1,0 +1,177 @@
+// The records of a site by number, and an index of them that a call keeps on its stack. A record falls into a bucket by what it is looked up by. The
+// index has a link for each record, the next record of its bucket in file order, and then a head for each bucket, its first record. The number
+// of records ends a chain. Nothing else knows where links and heads stand.
+ghost use mathlib.Core.Path.{_≡_};
+ghost use mathlib.Core.List.{[]};
+ghost use Prim.Native.Nat.{_+_, _≤_, _<_};
+ghost use lib.ListN.{length, getD};
+ghost use Rattle.octets.specs.Octets.{field};
+ghost use Rattle.model.specs.Site.{records};
+ghost use Rattle.index.specs.Index as Index;
+ghost use Rattle.index.specs.Index.{most-records, buckets, index-size, objectBucket, ruleBucket, factorBucket, bucketOf, IndexedFrom};
+use model::numbers::ACCESS_RULE;
+use model::numbers::AUTHENTICATION_FACTOR;
+use model::numbers::ROLE_IDENTIFYING;
+
+// The most records of a site, whose links come first; the buckets, whose heads follow.
+pub const MOST_RECORDS: usize = 2000;
+
+pub const BUCKETS: usize = 1024;
+
+pub const INDEX_SIZE: usize = 3024;
+
+// What an index holds before it is built. Its two bytes differ: a fill with equal bytes becomes a call of memset, and so of another library.
+pub const UNBUILT: u16 = 2000;
+
+// What a bucket is computed with: multiples of 2^30 by numbers far from all fractions, so that neither runs nor steps of instances and values meet.
+const SPREAD_FIRST: usize = 663608941;
+
+const SPREAD_SECOND: usize = 444758427;
+
+const SPREAD_THIRD: usize = 786033565;
+
+const SPREAD_SCALE: usize = 1048576;
+
+const SPREAD_TURN: usize = 204;
+
+pub fn record_count(site: &[u8]) -> usize
+    ensures { λ r. ⌜ r ≡ length (records (now (site .entry))) ⌝ }
+{
+    octets::group_count(site)
+}
+
+// The i-th record, as a part of the site.
+pub fn record_at(site: &[u8], i: usize) -> &[u8]
+    requires { ⌜ i < length (records (now site)) ⌝ }
+    ensures { λ r. ⌜ (now r ≡ getD (records (now (site .entry))) i []) × (length (now r) ≡ 32) ⌝ }
+{
+    octets::group(site, i)
+}
+
+fn spread(a: u32, b: u32, c: u32, turn: u16) -> usize
+    ensures { λ r. ⌜ (r ≡ Index.spread a b c turn) × (r < buckets) ⌝ }
+{
+    let sum = (a as usize) * SPREAD_FIRST
+        + (b as usize) * SPREAD_SECOND
+        + (c as usize) * SPREAD_THIRD;
+    (sum / SPREAD_SCALE + (turn as usize) * SPREAD_TURN) % BUCKETS
+}
+
+// The bucket of a zone, a point or a credential.
+pub fn object_bucket(kind: u8, instance: u32) -> usize
+    ensures { λ r. ⌜ (r ≡ objectBucket kind instance) × (r < buckets) ⌝ }
+{
+    spread(instance, 0, 0, kind as u16)
+}
+
+// The bucket of the rules of a rights number at a location; everywhere is location 0 of kind 0.
+pub fn rule_bucket(rights: u32, kind: u8, location: u32) -> usize
+    ensures { λ r. ⌜ (r ≡ ruleBucket rights kind location) × (r < buckets) ⌝ }
+{
+    spread(rights, location, kind as u32, ACCESS_RULE as u16)
+}
+
+// The bucket of the factors of a format, a value in two words and, where they confirm, a credential.
+fn factor_bucket(format: u8, high: u32, low: u32, owner: u32) -> usize
+    ensures { λ r. ⌜ (r ≡ factorBucket format high low owner) × (r < buckets) ⌝ }
+{
+    spread(low, high, owner, (format as u16) + (AUTHENTICATION_FACTOR as u16))
+}
+
+// The same of a value in bytes.
+pub fn value_bucket(format: u8, value: [u8; 8], owner: u32) -> usize
+    ensures { λ r. ⌜ (r ≡ factorBucket format (field 0 4 value) (field 4 4 value) owner) × (r < buckets) ⌝ }
+{
+    factor_bucket(
+        format,
+        octets::get_u32(&value, 0),
+        octets::get_u32(&value, 4),
+        owner,
+    )
+}
+
+fn owner_of(part: &[u8]) -> u32
+    requires { ⌜ length (now part) ≡ 32 ⌝ }
+    ensures { λ r. ⌜ r ≡ Index.owner (now (part .entry)) ⌝ }
+{
+    if octets::get_u8(part, 2) == ROLE_IDENTIFYING {
+        return 0;
+    }
+    octets::get_u32(part, 4)
+}
+
+fn bucket_of_rule(part: &[u8]) -> usize
+    requires { ⌜ length (now part) ≡ 32 ⌝ }
+    ensures { λ r. ⌜ (r ≡ Index.bucketOfRule (now (part .entry))) × (r < buckets) ⌝ }
+{
+    let rights = octets::get_u32(part, 4);
+    if records::flag_of(part, 3) {
+        return rule_bucket(rights, 0, 0);
+    }
+    rule_bucket(rights, octets::get_u8(part, 2), octets::get_u32(part, 8))
+}
+
+fn bucket_of(part: &[u8]) -> usize
+    requires { ⌜ length (now part) ≡ 32 ⌝ }
+    ensures { λ r. ⌜ (r ≡ bucketOf (now (part .entry))) × (r < buckets) ⌝ }
+{
+    let kind = octets::get_u8(part, 0);
+    if kind == AUTHENTICATION_FACTOR {
+        return factor_bucket(
+            octets::get_u8(part, 8),
+            octets::get_u32(part, 16),
+            octets::get_u32(part, 20),
+            owner_of(part),
+        );
+    }
+    if kind == ACCESS_RULE {
+        return bucket_of_rule(part);
+    }
+    object_bucket(kind, octets::get_u32(part, 4))
+}
+
+// An index of no record yet: every bucket ends at once.
+pub fn empty(site: &[u8], index: &mut [u16])
+    requires { ⌜ (length (records (now site)) ≤ most-records) × (length (now index) ≡ index-size) ⌝ }
+    ensures { λ _. ⌜ IndexedFrom (length (records (now (site .entry)))) (records (now (site .entry))) (now (index .exit)) ⌝ }
+{
+    let end = record_count(site) as u16;
+    let mut i = MOST_RECORDS;
+    while i < INDEX_SIZE {
+        index[i] = end;
+        i += 1;
+    }
+}
+
+// The i-th record is put before the later ones of its bucket.
+pub fn insert(site: &[u8], index: &mut [u16], i: usize)
+    requires { ⌜ IndexedFrom (i + 1) (records (now site)) (now index) ⌝ }
+    requires { ⌜ i < length (records (now site)) ⌝ }
+    ensures { λ _. ⌜ IndexedFrom i (records (now (site .entry))) (now (index .exit)) ⌝ }
+{
+    let head = MOST_RECORDS + bucket_of(record_at(site, i));
+    index[i] = index[head];
+    index[head] = i as u16;
+}
+
+fn wide(x: u16) -> usize
+    ensures { λ r. ⌜ r ≡ x ⌝ }
+{
+    x as usize
+}
+
+// The first record of a bucket.
+pub fn first_of(index: &[u16], bucket: usize) -> usize
+    requires { ⌜ (length (now index) ≡ index-size) × (bucket < buckets) ⌝ }
+    ensures { λ r. ⌜ r ≡ Index.head bucket (now (index .entry)) ⌝ }
+{
+    wide(index[MOST_RECORDS + bucket])
+}
+
+// The next record of the bucket of the i-th.
+pub fn next_of(index: &[u16], i: usize) -> usize
+    requires { ⌜ (length (now index) ≡ index-size) × (i < most-records) ⌝ }
+    ensures { λ r. ⌜ r ≡ Index.link i (now (index .entry)) ⌝ }
+{
+    wide(index[i])
+}
