@@ -14,7 +14,7 @@ use Rattle.model.specs.Site.{kind, instance, role, format, value, isAt}
 use Rattle.model.specs.Checks.{presents, identifying, confirming}
 use Rattle.model.specs.Accept.{twinFactors, twins}
 use Rattle.model.proofs.Laws.{and-left, and-right}
-use Rattle.index.specs.Index.{objectBucket, factorBucket, owner, bucketOf}
+use Rattle.index.specs.Index.{ByInstance, objectBucket, factorBucket, owner, bucketOf}
 
 -- The two words of a value.
 words : (s read : List ℕ) → same (value s) read ≡ true → (field 16 4 s ≡ field 0 4 read) × (field 20 4 s ≡ field 4 4 read)
@@ -23,12 +23,12 @@ words s read e =
     (sym (field-part 0 4 16 8 s (omega arith)) ∙ ap (field 0 4) v, sym (field-part 4 4 16 8 s (omega arith)) ∙ ap (field 4 4) v)
 
 -- A zone, a point or a credential.
-pub object-bucket : (k i : ℕ) → (k ≡ access-rule → ⊥) → (k ≡ authentication-factor → ⊥) → (s : List ℕ) → isAt k i s ≡ true → bucketOf s ≡ objectBucket k i
+pub object-bucket : (k i : ℕ) → ByInstance k → (s : List ℕ) → isAt k i s ≡ true → bucketOf s ≡ objectBucket k i
 unfolding bucketOf
-object-bucket k i m n s e =
+object-bucket k i n s e =
     let p : kind s ≡ k = eqb-true (kind s) k (and-left (eqb (kind s) k) (eqb (instance s) i) e) in
     let q : instance s ≡ i = eqb-true (instance s) i (and-right (eqb (kind s) k) (eqb (instance s) i) e) in
-    rw (p, q, ne-eqb k authentication-factor n, ne-eqb k access-rule m)
+    rw (p, q, ne-eqb k authentication-factor (n .1), ne-eqb k access-rule (n .0))
 
 -- A factor of a format, a value and an owner.
 factor-bucket : (form : ℕ) (read : List ℕ) (who : ℕ) (s : List ℕ) → eqb (kind s) authentication-factor ≡ true → presents form read s ≡ true

@@ -23,6 +23,10 @@ index-size = 3024
 unfoldable pub spread : ℕ → ℕ → ℕ → ℕ → ℕ
 spread a b c turn = ((a * 663608941 + b * 444758427 + c * 786033565) / 1048576 + turn * 204) % buckets
 
+-- The kinds whose records are looked up by their instance alone: all but rules and factors.
+abbrev pub ByInstance : ℕ → Type 0
+ByInstance k = (k ≡ access-rule → ⊥) × (k ≡ authentication-factor → ⊥)
+
 -- A zone, a point or a credential is looked up by its kind and instance.
 abbrev pub objectBucket : ℕ → ℕ → ℕ
 objectBucket k i = spread i 0 0 k

@@ -75,7 +75,12 @@ pub fn rule_bucket(rights: u32, kind: u8, location: u32) -> usize
 fn factor_bucket(format: u8, high: u32, low: u32, owner: u32) -> usize
     ensures { λ r. ⌜ (r ≡ factorBucket format high low owner) × (r < buckets) ⌝ }
 {
-    spread(low, high, owner, (format as u16) + (AUTHENTICATION_FACTOR as u16))
+    spread(
+        low,
+        high,
+        owner,
+        (format as u16) + (AUTHENTICATION_FACTOR as u16),
+    )
 }
 
 // The same of a value in bytes.

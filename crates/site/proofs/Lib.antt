@@ -1,5 +1,5 @@
 pub mod Records
-pub mod Walk
+pub mod Passed
 pub mod Places
 pub mod Panels
 pub mod Values

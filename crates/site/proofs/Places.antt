@@ -1,13 +1,17 @@
 -- A record's place, and the record.
-use Prim.Native.Nat.{ℕ, suc, _-_, _≤_, _<_}
+use Prim.Native.Nat.{ℕ, suc, _-_, _/_, _≤_, _<_}
 use mathlib.Core.Path.{_≡_, refl}
 use mathlib.Core.List.{List, [], _∷_}
 use mathlib.Core.Bool.{Bool, true, false}
 use native.Mathlib.Omega.{arith}
 use lib.ListN.{length, getD}
 use Rattle.model.specs.Words.{if_then_else_}
+use Rattle.octets.proofs.Groups.{length-group}
 use Rattle.model.specs.Site.{records, isAt, findIn, lookup}
+use Rattle.model.specs.Accept.{exists}
+use Rattle.index.proofs.Building.{length-records}
 use Rattle.site.specs.Place.{placeFrom, placeOf}
+use Rattle.site.proofs.Records.{no-bytes}
 use Rattle.site.specs.declared.Place.{Place}
 use Rattle.site.specs.declared.Place.the-variants.{At, Nothing}
 
@@ -46,3 +50,16 @@ place-found k i j site e =
 pub place-missing : (k i : ℕ) (site : List ℕ) → placeOf k i site ≡ Nothing → lookup k i site ≡ []
 unfolding First placeOf lookup
 place-missing k i site e = rw e at (first (isAt k i) 0 (records site))
+
+-- It exists where it has a place.
+pub place-exists : (k i j : ℕ) (site : List ℕ) → placeOf k i site ≡ At j → exists (records site) k i ≡ true
+unfolding exists lookup records
+place-exists k i j site e =
+    let f = place-found k i j site e in
+    let n : j < length site / 32 = omega (arith, f .0, length-records site) in
+    let l : length (findIn (isAt k i) (records site)) ≡ 32 = rw (f .1) at (length-group 32 (length site / 32) j site n (omega arith)) in
+    rw (← no-bytes (findIn (isAt k i) (records site)), l)
+
+pub place-exists-not : (k i : ℕ) (site : List ℕ) → placeOf k i site ≡ Nothing → exists (records site) k i ≡ false
+unfolding exists lookup
+place-exists-not k i site e = rw (place-missing k i site e)

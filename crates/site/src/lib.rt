@@ -1,9 +1,10 @@
-// The check of a site file, and the lookups in it.
-pub mod lookup; // lookup.rt: the record that a number names, and its place
+// The check of a site file, and the lookups in it: on any slice, and by the index of a site.
+pub mod lookup; // lookup.rt: the record that a number names, and its place, on any slice
+pub mod indexed; // indexed.rt: the same by the index of the site
 pub mod range; // range.rt: whether a field is out of range
 pub mod twins; // twins.rt: whether the same is there twice
 pub mod names; // names.rt: whether a named object is missing
-pub mod check; // check.rt: whether a site is turned back
+pub mod check; // check.rt: whether a site is turned back, and its index
 
 // Instances are numbered per object type, so that zone 7 is never credential 7: a number of each type is a type of its own.
 pub struct ZoneId(pub u32);
@@ -13,6 +14,14 @@ pub struct PointId(pub u32);
 pub struct CredentialId(pub u32);
 
 pub struct RightsId(pub u32);
+
+// A factor as it is presented: to identify a credential, or to confirm this one.
+pub struct Presented {
+    pub confirms: bool,
+    pub credential: CredentialId,
+    pub format: u8,
+    pub value: [u8; 8],
+}
 
 // Where a record stands among the records of a site.
 pub enum Place {

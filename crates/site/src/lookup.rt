@@ -1,19 +1,22 @@
 // The record that a number names, and its place, on any slice.
 ghost use mathlib.Core.Path.{_≡_};
-ghost use mathlib.Core.List.{[]};
-ghost use Prim.Native.Nat.{_+_, _≤_, _<_};
-ghost use lib.ListN.{length, take, drop, getD};
+ghost use Prim.Native.Nat.{_+_, _≤_};
+ghost use lib.ListN.{length, take, drop};
 ghost use Rattle.octets.specs.Octets.{same};
 ghost use Rattle.model.specs.Numbers.{access-zone, access-point, access-rule, access-credential};
 ghost use Rattle.model.specs.Site as Site;
 ghost use Rattle.model.specs.Site.{records, isAt, findIn, lookup};
 ghost use Rattle.model.specs.Checks.{presents, identifying, confirming};
 ghost use Rattle.site.specs.Place.{placeOf};
+ghost use Rattle.site.specs.Factor.{fits};
 use super::CredentialId;
 use super::Place;
 use super::PointId;
+use super::Presented;
 use super::RightsId;
 use super::ZoneId;
+use index::record_at;
+use index::record_count;
 use model::numbers::ACCESS_CREDENTIAL;
 use model::numbers::ACCESS_POINT;
 use model::numbers::ACCESS_RULE;
@@ -21,20 +24,6 @@ use model::numbers::ACCESS_ZONE;
 use model::numbers::AUTHENTICATION_FACTOR;
 use model::numbers::ROLE_CONFIRMING;
 use model::numbers::ROLE_IDENTIFYING;
-
-pub fn record_count(site: &[u8]) -> usize
-    ensures { λ r. ⌜ r ≡ length (records (now (site .entry))) ⌝ }
-{
-    octets::group_count(site)
-}
-
-// The i-th record, as a part of the site.
-pub fn record_at(site: &[u8], i: usize) -> &[u8]
-    requires { ⌜ i < length (records (now site)) ⌝ }
-    ensures { λ r. ⌜ (now r ≡ getD (records (now (site .entry))) i []) × (length (now r) ≡ 32) ⌝ }
-{
-    octets::group(site, i)
-}
 
 pub fn is_at(part: &[u8], kind: u8, instance: u32) -> bool
     requires { ⌜ length (now part) ≡ 32 ⌝ }
@@ -171,31 +160,27 @@ fn is_confirming(part: &[u8], credential: CredentialId, format: u8, value: [u8; 
     is_presented(part, format, value)
 }
 
-// The first identifying factor of a format and a value, else the empty part.
-pub fn find_identifying(site: &[u8], format: u8, value: [u8; 8]) -> &[u8]
-    ensures { λ r. ⌜ now r ≡ findIn (identifying format value) (records (now (site .entry))) ⌝ }
+// Whether a factor fits what is presented.
+pub fn is_fitting(part: &[u8], p: Presented) -> bool
+    requires { ⌜ length (now part) ≡ 32 ⌝ }
+    ensures { λ r. ⌜ r ≡ fits p (now (part .entry)) ⌝ }
 {
-    let n = record_count(site);
-    let mut i = 0;
-    while i < n {
-        let part = record_at(site, i);
-        if is_identifying(part, format, value) {
-            return part;
-        }
-        i += 1;
+    let value = p.value;
+    if p.confirms {
+        return is_confirming(part, p.credential, p.format, value);
     }
-    &site[..0]
+    is_identifying(part, p.format, value)
 }
 
-// The first confirming factor of a credential, a format and a value, else the empty part.
-pub fn find_confirming(site: &[u8], credential: CredentialId, format: u8, value: [u8; 8]) -> &[u8]
-    ensures { λ r. ⌜ now r ≡ findIn (confirming (credential .0) format value) (records (now (site .entry))) ⌝ }
+// The first factor that fits what is presented, else the empty part.
+pub fn find_factor(site: &[u8], p: Presented) -> &[u8]
+    ensures { λ r. ⌜ now r ≡ findIn (fits p) (records (now (site .entry))) ⌝ }
 {
     let n = record_count(site);
     let mut i = 0;
     while i < n {
         let part = record_at(site, i);
-        if is_confirming(part, credential, format, value) {
+        if is_fitting(part, p) {
             return part;
         }
         i += 1;

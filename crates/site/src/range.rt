@@ -1,14 +1,9 @@
 // Whether a field of a site is out of range (refusal 2).
 ghost use mathlib.Core.Path.{_≡_};
-ghost use mathlib.Core.Bool.{not};
 ghost use Prim.Native.Nat.{_+_, _≤_};
 ghost use lib.ListN.{length};
-ghost use Rattle.model.specs.Words.{all};
-ghost use Rattle.model.specs.Site.{everywhere, records};
 ghost use Rattle.model.specs.Accept.{clear, zoneInRange, pointInRange, ruleInRange, credentialInRange, factorInRange, inRange};
 ghost use Rattle.site.specs.Parts.{locationInRange};
-use super::lookup::record_at;
-use super::lookup::record_count;
 use model::numbers::ACCESS_CREDENTIAL;
 use model::numbers::ACCESS_POINT;
 use model::numbers::ACCESS_RULE;
@@ -64,13 +59,6 @@ fn point_in_range(part: &[u8]) -> bool
         & is_clear(part, 28, 4)
 }
 
-pub fn is_everywhere(part: &[u8]) -> bool
-    requires { ⌜ length (now part) ≡ 32 ⌝ }
-    ensures { λ r. ⌜ r ≡ everywhere (now (part .entry)) ⌝ }
-{
-    octets::get_u8(part, 1) / 8 % 2 == 1
-}
-
 // A rule's location: none where the rule is for everywhere, else a zone or a point.
 fn location_in_range(part: &[u8]) -> bool
     requires { ⌜ length (now part) ≡ 32 ⌝ }
@@ -78,7 +66,7 @@ fn location_in_range(part: &[u8]) -> bool
 {
     let kind = octets::get_u8(part, 2);
     let location = octets::get_u32(part, 8);
-    if is_everywhere(part) {
+    if records::flag_of(part, 3) {
         return (kind == 0) & (location == 0);
     }
     ((1 <= kind) & (kind <= 2)) & (location < NONE)
@@ -123,7 +111,7 @@ fn factor_in_range(part: &[u8]) -> bool
         & is_clear(part, 24, 8)
 }
 
-fn in_range(part: &[u8]) -> bool
+pub fn in_range(part: &[u8]) -> bool
     requires { ⌜ length (now part) ≡ 32 ⌝ }
     ensures { λ r. ⌜ r ≡ inRange (now (part .entry)) ⌝ }
 {
@@ -138,19 +126,4 @@ fn in_range(part: &[u8]) -> bool
         AUTHENTICATION_FACTOR => factor_in_range(part),
         _ => false,
     }
-}
-
-pub fn is_refused(site: &[u8]) -> bool
-    ensures { λ r. ⌜ r ≡ not (all inRange (records (now (site .entry)))) ⌝ }
-{
-    let n = record_count(site);
-    let mut i = 0;
-    while i < n {
-        let inside = in_range(record_at(site, i));
-        i += 1;
-        if !inside {
-            return true;
-        }
-    }
-    false
 }

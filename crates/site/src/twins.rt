@@ -6,9 +6,10 @@ ghost use lib.ListN.{length, getD, drop};
 ghost use Rattle.model.specs.Words.{any};
 ghost use Rattle.model.specs.Site.{records};
 ghost use Rattle.model.specs.Accept as Accept;
-use super::lookup::record_at;
-use super::lookup::record_count;
+ghost use Rattle.index.specs.Index.{IndexedFrom};
 use super::lookup::same_eight;
+use index::record_at;
+use index::record_count;
 use model::numbers::ACCESS_RULE;
 use model::numbers::AUTHENTICATION_FACTOR;
 use model::numbers::ROLE_IDENTIFYING;
@@ -47,33 +48,23 @@ fn twins(s: &[u8], t: &[u8]) -> bool
     }
 }
 
-// Whether a record after the i-th is the same as it.
-fn has_twin_after(site: &[u8], i: usize) -> bool
+// Whether a record after the i-th is the same as it: twins share a bucket. Rules, of which a bucket may hold many, are never twins.
+pub fn has_twin_after(site: &[u8], index: &[u16], i: usize) -> bool
+    requires { ⌜ IndexedFrom i (records (now site)) (now index) ⌝ }
     requires { ⌜ i < length (records (now site)) ⌝ }
     ensures { λ r. ⌜ r ≡ any (Accept.twins (getD (records (now (site .entry))) i [])) (drop (i + 1) (records (now (site .entry)))) ⌝ }
 {
     let n = record_count(site);
     let part = record_at(site, i);
-    let mut j = i + 1;
+    if octets::get_u8(part, 0) == ACCESS_RULE {
+        return false;
+    }
+    let mut j = index::next_of(index, i);
     while j < n {
         if twins(part, record_at(site, j)) {
             return true;
         }
-        j += 1;
-    }
-    false
-}
-
-pub fn is_refused(site: &[u8]) -> bool
-    ensures { λ r. ⌜ r ≡ Accept.twice (records (now (site .entry))) ⌝ }
-{
-    let n = record_count(site);
-    let mut i = 0;
-    while i < n {
-        if has_twin_after(site, i) {
-            return true;
-        }
-        i += 1;
+        j = index::next_of(index, j);
     }
     false
 }

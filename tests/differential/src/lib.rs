@@ -1,5 +1,5 @@
 //! The proved engine beside the `reference` crate: its calls, the comparison of one call through
-//! both engines, and what the tests share.
+//! both engines, and what the tests share. The benchmark has it beside the engines of `plain`.
 //!
 //! At the repository's root, `bash library/build` writes the library that is linked here and
 //! `rt check` the printing program. Then:
@@ -7,6 +7,7 @@
 //! ```text
 //! cargo test --release --offline --manifest-path tests/Cargo.toml
 //! cargo run --release --offline --manifest-path tests/Cargo.toml --bin bench
+//! cargo run --release --offline --manifest-path tests/Cargo.toml --bin bench -- --instructions
 //! ```
 //!
 //! WARBLEHAY_SEED and WARBLEHAY_CASES set another seed and another number of random cases,
@@ -15,6 +16,7 @@
 
 #![forbid(unsafe_code)]
 
+pub mod colliding;
 pub mod compare;
 pub mod proved;
 pub mod small;

@@ -1,5 +1,5 @@
-/* stack SITE JOURNAL: the bytes of stack that a run of the journal uses, the deepest of the calls, with the function that calls it. It runs on a
- * stack of its own, painted before. */
+/* stack SITE JOURNAL: the bytes of stack that the site check, the fresh state and the run of the journal use, a line each, with the function
+ * that makes the call. Each runs on a stack of its own, painted before. */
 #define _XOPEN_SOURCE 700
 #include "warblehay.h"
 
@@ -24,10 +24,37 @@ static size_t read_file(const char *name, uint8_t *buffer, size_t room)
     return length;
 }
 
+static void check(void)
+{
+    returned = warblehay_check_site(site, site_length);
+}
+
+static void fresh(void)
+{
+    returned = warblehay_fresh_state(site, site_length, state, site_length);
+}
+
 static void run(void)
 {
     size_t answers_length = journal_length / WARBLEHAY_ENTRY_SIZE * WARBLEHAY_ANSWER_SIZE;
     returned = warblehay_run_journal(site, site_length, state, site_length, journal, journal_length, answers, answers_length);
+}
+
+/* The bytes down to the lowest that a call wrote; those below the stack pointer count too. */
+static size_t used_by(void (*call)(void))
+{
+    memset(stack, PAINT, sizeof stack);
+    getcontext(&callee);
+    callee.uc_stack.ss_sp = stack;
+    callee.uc_stack.ss_size = sizeof stack;
+    callee.uc_link = &caller;
+    makecontext(&callee, call, 0);
+    swapcontext(&caller, &callee);
+
+    size_t unused = 0;
+    while (unused < sizeof stack && stack[unused] == PAINT)
+        unused++;
+    return sizeof stack - unused;
 }
 
 int main(int count, char **arguments)
@@ -36,22 +63,15 @@ int main(int count, char **arguments)
         return 1;
     site_length = read_file(arguments[1], site, sizeof site);
     journal_length = read_file(arguments[2], journal, sizeof journal);
-    if (warblehay_fresh_state(site, site_length, state, site_length) != WARBLEHAY_WORKED_THROUGH || journal_length == 0)
+    if (site_length == 0 || journal_length == 0)
         return 1;
 
-    memset(stack, PAINT, sizeof stack);
-    getcontext(&callee);
-    callee.uc_stack.ss_sp = stack;
-    callee.uc_stack.ss_size = sizeof stack;
-    callee.uc_link = &caller;
-    makecontext(&callee, run, 0);
-    swapcontext(&caller, &callee);
-    if (returned != WARBLEHAY_WORKED_THROUGH)
-        return 1;
-
-    size_t unused = 0;
-    while (unused < sizeof stack && stack[unused] == PAINT)
-        unused++;
-    printf("%zu\n", sizeof stack - unused);
+    void (*const calls[])(void) = {check, fresh, run};
+    for (size_t index = 0; index < sizeof calls / sizeof *calls; index++) {
+        size_t used = used_by(calls[index]);
+        if (returned != WARBLEHAY_WORKED_THROUGH)
+            return 1;
+        printf("%zu\n", used);
+    }
     return 0;
 }

@@ -3,7 +3,8 @@
 
 mod library;
 
-use reference::numbers::{ENTRY_LENGTH, MOST_JOURNAL_BYTES, RECORD_LENGTH};
+use reference::generate::{journal, large_site, Random};
+use reference::numbers::{ENTRY_LENGTH, MOST_JOURNAL_BYTES, MOST_SITE_BYTES, RECORD_LENGTH};
 use reference::print::print_journal;
 use std::fs;
 use std::path::{Path, PathBuf};
@@ -60,12 +61,18 @@ fn on_example(program: impl AsRef<Path>) -> Command {
     command
 }
 
-/// Every program prints the text of a site and a journal.
-fn assert_printed(programs: &[PathBuf], test: &str, site: &[u8], journal: &[u8], text: &str) {
+/// A site file and a journal file in the directory of the test.
+fn write_files(test: &str, site: &[u8], journal: &[u8]) -> [PathBuf; 2] {
     let directory = library::scratch(test);
     let files = [directory.join("site"), directory.join("journal")];
     fs::write(&files[0], site).expect("the site file is written");
     fs::write(&files[1], journal).expect("the journal file is written");
+    files
+}
+
+/// Every program prints the text of a site and a journal.
+fn assert_printed(programs: &[PathBuf], test: &str, site: &[u8], journal: &[u8], text: &str) {
+    let files = write_files(test, site, journal);
     for program in programs {
         let printed = library::assert_succeeds(Command::new(program).args(&files));
         assert_eq!(printed, text, "{program:?}");
@@ -141,13 +148,32 @@ fn damaged_buffers() {
     }
 }
 
-/// The header promises less than 1 KiB.
+/// The header promises that a call uses less than these bytes of stack, 8 KiB.
+const STACK: usize = 8_192;
+
+/// Each call on the paper's example, and on the largest site with the largest journal.
 #[test]
 fn the_stack_stays_small() {
     let program = compile("stack", "stack", &PLAIN);
-    let printed = library::assert_succeeds(&mut on_example(program));
-    let used: usize = printed.trim().parse().expect("a number");
-    assert!((1..1024).contains(&used), "{used} bytes");
+    let mut random = Random::new(1);
+    let site = large_site(&mut random, 100, MOST_SITE_BYTES / RECORD_LENGTH);
+    let journal = journal(&mut random, 100, &site, MOST_JOURNAL_BYTES / ENTRY_LENGTH);
+    let largest = write_files("stack", &site, &journal);
+    for command in [
+        &mut on_example(&program),
+        Command::new(&program).args(largest),
+    ] {
+        let printed = library::assert_succeeds(command);
+        let used: Vec<usize> = printed
+            .lines()
+            .filter_map(|line| line.parse().ok())
+            .collect();
+        assert_eq!(used.len(), 3, "a number for each call");
+        assert!(
+            used.iter().all(|used| (1..STACK).contains(used)),
+            "{used:?} bytes"
+        );
+    }
 }
 
 /// The library has code and constants alone, and no bytes that calls could share.

@@ -93,7 +93,7 @@ impl<'a, L: Lookup> FactorRead<'a, L> {
             .lookup
             .named(self.site.records, self.index, &ZONE_FROM);
         if holder[record::FLAGS] & credential_flag::MASTER_EXEMPTION == 0 {
-            self.check_authorization(holder)?;
+            self.check_authorization(holder, index)?;
             self.check_passback(holder, index)?;
             self.check_limits(holder, zone_from)?;
         }
@@ -245,7 +245,7 @@ impl<'a, L: Lookup> FactorRead<'a, L> {
 
     /// Steps 7 to 9.
     #[inline]
-    fn check_authorization(&self, holder: &Record) -> ControlFlow<u16> {
+    fn check_authorization(&self, holder: &Record, index: usize) -> ControlFlow<u16> {
         let mode = self.point[point::AUTHORIZATION_MODE];
         if mode == authorization_mode::DENY_ALL {
             return Break(event::DENIED_DENY_ALL);
@@ -254,7 +254,7 @@ impl<'a, L: Lookup> FactorRead<'a, L> {
             return Break(event::DENIED_THREAT_LEVEL);
         }
         if mode == authorization_mode::AUTHORIZE {
-            return check_rights(self.site, holder, self.point, self.now);
+            return check_rights(self.site, index, self.point, self.now);
         }
         Continue(())
     }

@@ -2,11 +2,12 @@
 
 use crate::bytes::{get32, get64, Record};
 use crate::linear::scan_rules;
-use crate::lookup::{Lookup, Reference, Rule};
+use crate::lookup::{rights, Field, Lookup, Rule};
 use reference::layout::{factor, record};
 use reference::numbers::{factor_role, kind, NONE};
 use std::cell::{Cell, OnceCell};
 use std::collections::HashMap;
+use std::hash::{Hash, Hasher};
 use std::ops::ControlFlow::{self, Continue};
 use std::ops::Range;
 
@@ -19,15 +20,14 @@ const NOWHERE: Place = Place::MAX;
 /// The bits of an instance.
 const INSTANCE_BITS: u32 = NONE.count_ones();
 
-/// Reads that scan the rules before they are grouped: few cost less so.
+/// The rules are grouped after so many scans of them: for few reads, scans cost less.
 const SCANS: u32 = 8;
 
 pub struct Hashed {
     /// Zones, points and credentials by kind and instance.
     objects: HashMap<u32, Place>,
-    /// Factors by value, and by format and credential.
-    factors: HashMap<(u64, u32), Place>,
-    /// What each record names. The check that it exists has found it.
+    factors: HashMap<FactorKey, Place>,
+    /// What each record names: found by the check that it exists, and kept.
     named: Vec<[Place; 2]>,
     scans: Cell<u32>,
     rules: OnceCell<Rules>,
@@ -36,7 +36,8 @@ pub struct Hashed {
 /// The rules, those of a rights number side by side.
 struct Rules {
     sorted: Vec<Rule>,
-    of: HashMap<u32, Range<Place>>,
+    /// Where those of each credential's rights numbers stand.
+    of: Vec<[Range<Place>; 2]>,
 }
 
 /// Kind and instance in one number, which is hashed quicker than two.
@@ -45,14 +46,35 @@ fn object_key(kind: u8, instance: u32) -> u32 {
     u32::from(kind) << INSTANCE_BITS | instance
 }
 
-/// Identifying factors go by no credential, so that they are in the map under NONE.
-#[inline]
-fn factor_key(credential: u32, format: u8, value: u64) -> (u64, u32) {
-    (value, u32::from(format) << INSTANCE_BITS | credential)
+/// Value, format and credential. Identifying factors go by no credential, so that they are in the
+/// map under NONE.
+#[derive(PartialEq, Eq)]
+struct FactorKey {
+    value: u64,
+    format_and_credential: u32,
+}
+
+impl Hash for FactorKey {
+    /// In one piece, which is quicker than two.
+    #[inline]
+    fn hash<H: Hasher>(&self, hasher: &mut H) {
+        let mut bytes = [0; 12];
+        bytes[..8].copy_from_slice(&self.value.to_ne_bytes());
+        bytes[8..].copy_from_slice(&self.format_and_credential.to_ne_bytes());
+        hasher.write(&bytes);
+    }
 }
 
 #[inline]
-fn key_of_factor(factor: &Record) -> (u64, u32) {
+fn factor_key(credential: u32, format: u8, value: u64) -> FactorKey {
+    FactorKey {
+        value,
+        format_and_credential: u32::from(format) << INSTANCE_BITS | credential,
+    }
+}
+
+#[inline]
+fn key_of_factor(factor: &Record) -> FactorKey {
     let credential = match factor[factor::ROLE] {
         factor_role::CONFIRMING => get32(factor, record::INSTANCE),
         _ => NONE,
@@ -63,12 +85,8 @@ fn key_of_factor(factor: &Record) -> (u64, u32) {
 
 impl Lookup for Hashed {
     fn new(records: &[Record]) -> Option<Hashed> {
-        let of_kind = |kind| {
-            records
-                .iter()
-                .filter(move |record| record[record::KIND] == kind)
-        };
-        let (rules, factors) = (of_kind(kind::RULE).count(), of_kind(kind::FACTOR).count());
+        let rules = of_kind(records, kind::RULE).count();
+        let factors = of_kind(records, kind::FACTOR).count();
         let mut hashed = Hashed {
             objects: HashMap::with_capacity(records.len() - rules - factors),
             factors: HashMap::with_capacity(factors),
@@ -100,7 +118,7 @@ impl Lookup for Hashed {
     }
 
     #[inline]
-    fn link(&mut self, records: &[Record], index: usize, field: &Reference) -> bool {
+    fn link(&mut self, records: &[Record], index: usize, field: &Field) -> bool {
         let instance = field.instance(&records[index]);
         if instance == NONE {
             return true;
@@ -113,7 +131,7 @@ impl Lookup for Hashed {
     }
 
     #[inline]
-    fn named(&self, _: &[Record], index: usize, field: &Reference) -> Option<usize> {
+    fn named(&self, _: &[Record], index: usize, field: &Field) -> Option<usize> {
         let place = self.named[index][field.slot];
         (place != NOWHERE).then_some(usize::from(place))
     }
@@ -134,16 +152,17 @@ impl Lookup for Hashed {
     fn each_rule(
         &self,
         records: &[Record],
-        rights: [u32; 2],
+        credential: usize,
         mut see: impl FnMut(&Rule) -> ControlFlow<()>,
     ) -> ControlFlow<()> {
         if self.scans.get() < SCANS {
             self.scans.set(self.scans.get() + 1);
-            return scan_rules(records, rights, see);
+            return scan_rules(records, rights(&records[credential]), see);
         }
         let rules = self.rules.get_or_init(|| Rules::new(records));
-        for number in rights {
-            rules.of(number).iter().try_for_each(&mut see)?;
+        for range in &rules.of[credential] {
+            let group = &rules.sorted[range.start.into()..range.end.into()];
+            group.iter().try_for_each(&mut see)?;
         }
         Continue(())
     }
@@ -151,30 +170,32 @@ impl Lookup for Hashed {
 
 impl Rules {
     fn new(records: &[Record]) -> Rules {
-        let rules = records
-            .iter()
-            .filter(|record| record[record::KIND] == kind::RULE);
-        let mut sorted: Vec<Rule> = rules
+        let mut sorted: Vec<Rule> = of_kind(records, kind::RULE)
             .map(|record| *record.first_chunk().expect("a record is longer"))
             .collect();
         sorted.sort_unstable_by_key(rights_of);
-        let mut of = HashMap::new();
+        let mut groups = HashMap::new();
         let mut start = 0;
         for group in sorted.chunk_by(|one, next| rights_of(one) == rights_of(next)) {
             let end = start + group.len() as Place;
-            of.insert(rights_of(&group[0]), start..end);
+            groups.insert(rights_of(&group[0]), start..end);
             start = end;
         }
-        Rules { sorted, of }
-    }
-
-    #[inline]
-    fn of(&self, rights: u32) -> &[Rule] {
-        let Some(range) = self.of.get(&rights) else {
-            return &[];
+        let of_number = |number| groups.get(&number).cloned().unwrap_or_default();
+        let of_record = |record: &Record| match record[record::KIND] {
+            kind::CREDENTIAL => rights(record).map(of_number),
+            _ => Default::default(),
         };
-        &self.sorted[usize::from(range.start)..usize::from(range.end)]
+        Rules {
+            of: records.iter().map(of_record).collect(),
+            sorted,
+        }
     }
+}
+
+fn of_kind(records: &[Record], kind: u8) -> impl Iterator<Item = &Record> {
+    let records = records.iter();
+    records.filter(move |record| record[record::KIND] == kind)
 }
 
 fn rights_of(rule: &Rule) -> u32 {

@@ -1,7 +1,7 @@
 //! Lookups by scans of the site.
 
 use crate::bytes::{get32, get64, word, Record};
-use crate::lookup::{Lookup, Reference, Rule};
+use crate::lookup::{rights, Field, Lookup, Rule};
 use reference::layout::{factor, record};
 use reference::numbers::{factor_role, kind, NONE};
 use std::ops::ControlFlow::{self, Continue};
@@ -28,14 +28,31 @@ fn value_of(factor: &Record) -> u64 {
     get64(factor, factor::VALUE)
 }
 
-/// Kind, role and format as the first test finds them alike: after the value, since values seldom
-/// are.
+/// The value first, since it is seldom alike.
 #[inline(always)]
 fn is_factor(record: &Record, role: u8, format: u8, value: u64) -> bool {
     value_of(record) == value
         && record[record::KIND] == kind::FACTOR
         && record[factor::ROLE] == role
         && record[factor::FORMAT] == format
+}
+
+/// The records of one turn of a scan's loop, which the compiler unrolls.
+const TURN: usize = 8;
+
+/// The position of the first record that fits.
+#[inline(always)]
+fn position(records: &[Record], fits: impl Fn(&Record) -> bool) -> Option<usize> {
+    let (turns, rest) = records.as_chunks::<TURN>();
+    for (turn, records) in turns.iter().enumerate() {
+        for (place, record) in records.iter().enumerate() {
+            if fits(record) {
+                return Some(turn * TURN + place);
+            }
+        }
+    }
+    let place = rest.iter().position(fits)?;
+    Some(turns.len() * TURN + place)
 }
 
 impl Lookup for Linear {
@@ -48,17 +65,17 @@ impl Lookup for Linear {
     #[inline]
     fn find(&self, records: &[Record], kind: u8, instance: u32) -> Option<usize> {
         let key = key(kind, instance);
-        records.iter().position(|record| key_of(record) == key)
+        position(records, |record| key_of(record) == key)
     }
 
     #[inline]
-    fn link(&mut self, records: &[Record], index: usize, field: &Reference) -> bool {
+    fn link(&mut self, records: &[Record], index: usize, field: &Field) -> bool {
         let instance = field.instance(&records[index]);
         instance == NONE || self.find(records, field.kind, instance).is_some()
     }
 
     #[inline]
-    fn named(&self, records: &[Record], index: usize, field: &Reference) -> Option<usize> {
+    fn named(&self, records: &[Record], index: usize, field: &Field) -> Option<usize> {
         let instance = field.instance(&records[index]);
         if instance == NONE {
             return None;
@@ -69,8 +86,7 @@ impl Lookup for Linear {
     #[inline]
     fn identifying(&self, records: &[Record], format: u8, value: u64) -> Option<usize> {
         let role = factor_role::IDENTIFYING;
-        let mut records = records.iter();
-        records.position(|record| is_factor(record, role, format, value))
+        position(records, |record| is_factor(record, role, format, value))
     }
 
     #[inline]
@@ -82,7 +98,7 @@ impl Lookup for Linear {
         value: u64,
     ) -> Option<usize> {
         let role = factor_role::CONFIRMING;
-        records.iter().position(|record| {
+        position(records, |record| {
             is_factor(record, role, format, value) && get32(record, record::INSTANCE) == credential
         })
     }
@@ -91,14 +107,15 @@ impl Lookup for Linear {
     fn each_rule(
         &self,
         records: &[Record],
-        rights: [u32; 2],
+        credential: usize,
         see: impl FnMut(&Rule) -> ControlFlow<()>,
     ) -> ControlFlow<()> {
-        scan_rules(records, rights, see)
+        scan_rules(records, rights(&records[credential]), see)
     }
 }
 
-/// As `Lookup::each_rule`, by a scan.
+/// Shows the rules of the rights numbers. A loop of its own looks for the next one, so that `see`
+/// does not slow it.
 #[inline]
 pub fn scan_rules(
     records: &[Record],
@@ -106,11 +123,14 @@ pub fn scan_rules(
     mut see: impl FnMut(&Rule) -> ControlFlow<()>,
 ) -> ControlFlow<()> {
     let [first, second] = rights.map(|number| key(kind::RULE, number));
-    for record in records {
+    let fits = |record: &Record| {
         let key = key_of(record);
-        if key == first || key == second {
-            see(record.first_chunk().expect("a record is longer"))?;
-        }
+        key == first || key == second
+    };
+    let mut rest = records;
+    while let Some(place) = position(rest, fits) {
+        see(rest[place].first_chunk().expect("a record is longer"))?;
+        rest = &rest[place + 1..];
     }
     Continue(())
 }
@@ -122,12 +142,12 @@ fn is_among(others: &[Record], record: &Record) -> bool {
         kind::RULE => false,
         kind::FACTOR => {
             let value = value_of(record);
-            let mut others = others.iter();
-            others.any(|other| value_of(other) == value && are_twins(other, record))
+            let is_twin = |other: &Record| value_of(other) == value && are_twins(other, record);
+            position(others, is_twin).is_some()
         }
         _ => {
             let key = key_of(record);
-            others.iter().any(|other| key_of(other) == key)
+            position(others, |other| key_of(other) == key).is_some()
         }
     }
 }

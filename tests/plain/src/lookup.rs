@@ -1,7 +1,7 @@
 //! What the two engines do differently: how a record is found.
 
 use crate::bytes::{get32, Record};
-use reference::layout::{point, record};
+use reference::layout::{credential, point, record};
 use reference::numbers::kind;
 use std::ops::ControlFlow;
 
@@ -9,37 +9,43 @@ use std::ops::ControlFlow;
 pub type Rule = [u8; 16];
 
 /// A field in which a record names an object.
-pub struct Reference {
+pub struct Field {
     pub kind: u8,
     pub offset: usize,
     /// Its place among the fields of the record that name objects.
     pub slot: usize,
 }
 
-pub const ZONE_TO: Reference = Reference {
+pub const ZONE_TO: Field = Field {
     kind: kind::ZONE,
     offset: point::ZONE_TO,
     slot: 0,
 };
 
-pub const ZONE_FROM: Reference = Reference {
+pub const ZONE_FROM: Field = Field {
     kind: kind::ZONE,
     offset: point::ZONE_FROM,
     slot: 1,
 };
 
 /// A factor's credential.
-pub const OWNER: Reference = Reference {
+pub const OWNER: Field = Field {
     kind: kind::CREDENTIAL,
     offset: record::INSTANCE,
     slot: 0,
 };
 
-impl Reference {
+impl Field {
     #[inline(always)]
     pub fn instance(&self, record: &Record) -> u32 {
         get32(record, self.offset)
     }
+}
+
+/// The rights numbers of a credential.
+#[inline(always)]
+pub fn rights(credential: &Record) -> [u32; 2] {
+    [credential::FIRST_RIGHTS, credential::SECOND_RIGHTS].map(|offset| get32(credential, offset))
 }
 
 /// Records are known by their position in the site.
@@ -51,10 +57,10 @@ pub trait Lookup: Sized {
     fn find(&self, records: &[Record], kind: u8, instance: u32) -> Option<usize>;
 
     /// Whether what a record names in the field is NONE or exists. `named` then hands it back.
-    fn link(&mut self, records: &[Record], index: usize, field: &Reference) -> bool;
+    fn link(&mut self, records: &[Record], index: usize, field: &Field) -> bool;
 
     /// What a record names in the field, unless NONE.
-    fn named(&self, records: &[Record], index: usize, field: &Reference) -> Option<usize>;
+    fn named(&self, records: &[Record], index: usize, field: &Field) -> Option<usize>;
 
     fn identifying(&self, records: &[Record], format: u8, value: u64) -> Option<usize>;
 
@@ -66,11 +72,11 @@ pub trait Lookup: Sized {
         value: u64,
     ) -> Option<usize>;
 
-    /// Shows the rules of the rights numbers, until one breaks.
+    /// Shows the rules of a credential's rights numbers, until one breaks.
     fn each_rule(
         &self,
         records: &[Record],
-        rights: [u32; 2],
+        credential: usize,
         see: impl FnMut(&Rule) -> ControlFlow<()>,
     ) -> ControlFlow<()>;
 }

@@ -1,9 +1,9 @@
 //! Step 9: the access rights of a credential at a point.
 
-use crate::bytes::{get16, get32, Record};
+use crate::bytes::{get16, get32, half, Record};
 use crate::lookup::{Lookup, Rule};
 use crate::site::Site;
-use reference::layout::{credential, point, record, rule};
+use reference::layout::{point, record, rule};
 use reference::numbers::{
     event, location_kind, rule_flag, DAYS_PER_WEEK, MINUTES_PER_DAY, NONE, SECONDS_PER_DAY,
     SECONDS_PER_MINUTE,
@@ -12,8 +12,10 @@ use std::ops::ControlFlow::{self, Break, Continue};
 
 /// Where and when a card is shown, worked out once for all rules.
 struct Place {
+    /// In the machine's order, as they are compared with those of rules.
     point: u32,
     zone_to: u32,
+    has_zone_to: bool,
     /// The bit of the weekday.
     day: u8,
     minute: u32,
@@ -22,22 +24,19 @@ struct Place {
 /// The first fitting negative rule denies, whatever the others say.
 pub fn check_rights<L: Lookup>(
     site: &Site<L>,
-    holder: &Record,
+    credential: usize,
     point: &Record,
     now: u32,
 ) -> ControlFlow<u16> {
     let place = Place {
-        point: get32(point, record::INSTANCE),
-        zone_to: get32(point, point::ZONE_TO),
+        point: half(point, record::INSTANCE),
+        zone_to: half(point, point::ZONE_TO),
+        has_zone_to: get32(point, point::ZONE_TO) != NONE,
         day: 1 << (now / SECONDS_PER_DAY % DAYS_PER_WEEK),
         minute: now / SECONDS_PER_MINUTE % u32::from(MINUTES_PER_DAY),
     };
-    let rights = [
-        get32(holder, credential::FIRST_RIGHTS),
-        get32(holder, credential::SECOND_RIGHTS),
-    ];
     let (mut fits, mut fits_in_location) = (false, false);
-    let denied = site.lookup.each_rule(site.records, rights, |rule| {
+    let denied = site.lookup.each_rule(site.records, credential, |rule| {
         if rule[record::FLAGS] & rule_flag::ENABLE == 0 || !place.is_in(rule) {
             return Continue(());
         }
@@ -71,7 +70,7 @@ impl Place {
             location_kind::POINT => self.point,
             _ => self.zone_to,
         };
-        get32(rule, rule::LOCATION) == here
+        half(rule, rule::LOCATION) == here
     }
 
     #[inline(always)]
@@ -87,7 +86,7 @@ impl Place {
         if fits_in_location {
             return event::DENIED_OUT_OF_TIME_RANGE;
         }
-        if self.zone_to != NONE {
+        if self.has_zone_to {
             return event::DENIED_ZONE_NO_ACCESS_RIGHTS;
         }
         event::DENIED_POINT_NO_ACCESS_RIGHTS

@@ -66,25 +66,26 @@ fn random_and_damaged_cases() {
     occurrences.assert_events_and_marks(cases / 1_000);
 }
 
-/// Long journals on large sites, sound and damaged, from the fresh state and from odd ones.
+/// Long journals on large sites, from the fresh state and from odd ones; and damage to the sites.
 #[test]
 fn large_sites() {
     let mut random = settings::random();
     let mut occurrences = Occurrences::default();
-    for round in 0..60 {
+    for round in 0..48 {
         let base = base_time(&mut random);
-        let most = MOST_SITE_BYTES / RECORD_LENGTH;
-        let records = random.pick(&[40, 100, 300, most]);
-        let mut site = large_site(&mut random, base, records);
-        if round % 4 == 0 {
-            damage(&mut random, &mut site, RECORD_LENGTH);
-        }
+        let records = random.pick(&[40, 100, 300, MOST_SITE_BYTES / RECORD_LENGTH]);
+        let site = large_site(&mut random, base, records);
         let mut case = Case {
             state: generate::state(&mut random, base, &site),
             journal: generate::journal(&mut random, base, &site, 300),
             answers: vec![0xA5; 300 * ANSWER_LENGTH],
             site,
         };
+        for _ in 0..4 {
+            let mut damaged = case.clone();
+            damage(&mut random, &mut damaged.site, RECORD_LENGTH);
+            occurrences.count_call(agreed(check_site, &mut damaged));
+        }
         if round % 2 == 0 {
             agreed(fresh_state, &mut case);
         }
@@ -92,14 +93,9 @@ fn large_sites() {
         occurrences.count_run(returned, &case.journal, &case.answers);
     }
     settings::print("Plain engines, large sites", &occurrences);
-    let in_answers = [
-        refusal::ENTRY_FIELD,
-        refusal::ENTRY_MISSING,
-        refusal::ENTRY_COUNT,
-    ];
-    let mut occurring = vec![refusal::SITE_FIELD, refusal::SITE_MISSING];
-    occurring.extend(in_answers);
-    occurrences.assert_refusals(1, &occurring);
+    let of_sites = refusal::SITE_LENGTH..=refusal::SITE_MISSING;
+    let in_answers = refusal::ENTRY_FIELD..=refusal::ENTRY_COUNT;
+    occurrences.assert_refusals(1, &Vec::from_iter(of_sites.chain(in_answers)));
 }
 
 /// As many zones as fit, and more.
@@ -144,23 +140,17 @@ fn state_journal_and_answers_lengths() {
     let entry = EntryFields::read_factor(1, 1, FORMAT, [1; 8]);
     let mut occurrences = Occurrences::default();
     for entries in [2, MOST_JOURNAL_BYTES / ENTRY_LENGTH] {
-        let journal = journal(&vec![entry; entries + 3_000]);
-        for journal_length in about(entries * ENTRY_LENGTH, ENTRY_LENGTH) {
-            for answers_length in [0, ANSWER_LENGTH].map(|more| entries * ANSWER_LENGTH + more) {
-                for state_length in [site.len(), site.len() - 1, site.len() + 32, 0] {
-                    let mut case = Case {
-                        site: site.clone(),
-                        state: vec![0; site.len()],
-                        journal: journal[..journal_length].to_vec(),
-                        answers: vec![0xA5; answers_length],
-                    };
-                    agreed(fresh_state, &mut case);
-                    case.state.resize(state_length, 0);
-                    agreed_checks(&case);
-                    let returned = agreed(run_journal, &mut case);
-                    occurrences.count_call(returned);
-                }
-            }
+        let mut case = Case {
+            state: vec![0; site.len()],
+            journal: journal(&vec![entry; entries]),
+            answers: vec![0xA5; entries * ANSWER_LENGTH],
+            site: site.clone(),
+        };
+        assert_eq!(agreed(fresh_state, &mut case), refusal::ACCEPTED);
+        assert_eq!(agreed(run_journal, &mut case.clone()), refusal::ACCEPTED);
+        for other in with_other_lengths(&case) {
+            agreed_checks(&other);
+            occurrences.count_call(agreed(run_journal, &mut other.clone()));
         }
     }
     let of_lengths = [
@@ -169,4 +159,27 @@ fn state_journal_and_answers_lengths() {
         refusal::ANSWERS_LENGTH,
     ];
     occurrences.assert_refusals(2, &of_lengths);
+}
+
+/// The case with lengths about its own of state, journal and answers, and with two of them wrong.
+fn with_other_lengths(case: &Case) -> Vec<Case> {
+    let mut others = vec![case.clone()];
+    for length in about(case.state.len(), RECORD_LENGTH) {
+        let mut other = case.clone();
+        other.state.resize(length, 0);
+        others.push(other.clone());
+        other.journal.pop();
+        others.push(other);
+    }
+    for length in about(case.journal.len(), ENTRY_LENGTH) {
+        let mut other = case.clone();
+        other.journal.resize(length, 0);
+        others.push(other);
+    }
+    for length in about(case.answers.len(), ANSWER_LENGTH) {
+        let mut other = case.clone();
+        other.answers.resize(length, 0xA5);
+        others.push(other);
+    }
+    others
 }

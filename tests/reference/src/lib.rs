@@ -1,8 +1,8 @@
 //! Second implementation of the access decision engine of document 01.
 //!
 //! It is written from the text of document 01 alone, shares no code with the proved engine, and
-//! serves as its counterpart in the differential test and as the baseline of the benchmark. Every
-//! lookup is a linear scan of the site. Names follow Addendum 135-2008j (document 002).
+//! serves as its counterpart in the differential test. It is written to be read: every lookup is a
+//! linear scan of the site. Names follow Addendum 135-2008j (document 002).
 
 #![forbid(unsafe_code)]
 

@@ -1,4 +1,4 @@
--- What is left decides: the place in what is left is the place in the whole.
+-- Record by record: the place in what is left is the place in the whole.
 use Prim.Native.Nat.{_<_, _-_}
 use mathlib.Core.Path.{_≡_, refl, sym, _∙_}
 use native.Mathlib.Omega.{arith}
@@ -6,8 +6,9 @@ use borrow.Author.Needs.{needs}
 use lib.ListN.{length, drop}
 use denote.Ref.{now}
 use Rattle.model.specs.Site.{records, isAt}
+use Rattle.index.proofs.Walks.{left-turn, left-end, past}
 use Rattle.site.specs.Place.{placeFrom, placeOf}
-use Rattle.site.proofs.Walk.{walk-place, place-end}
+use Rattle.site.proofs.Passed.{place-passes}
 use Rattle.site.proofs.lookup.place_of.Statement.{statement}
 use Rattle.site.proofs.lookup.place_of.Tie as tie
 
@@ -23,27 +24,28 @@ unfolding placeOf
 loop-holds c = (c .record-count .ensures, refl)
 
 returns : tie.Need-returns Inv-loop μ-loop
+unfolding placeFrom
 returns c =
     let l = c .before .before .before .before in
-    let a = l .before .before .before .args in
-    let ss = records (now (a .site)) in
+    let ss = records (now (l .before .before .before .args .site)) in
     let h : l .loop .i < length ss = omega arith in
-    rw (← l .loop .inv .1, walk-place (isAt (a .kind) (a .instance)) ss (l .loop .i) h, ← c .before .before .record-at .ensures .0, ← c .before .is-at .ensures, c .if1 .taken)
+    rw (← l .loop .inv .1, left-turn ss (l .loop .i) h, ← c .before .before .record-at .ensures .0, ← c .before .is-at .ensures, c .if1 .taken)
 
 loop-again : tie.Need-loop-again Inv-loop μ-loop
 loop-again c =
     let l = c .before .before .before .before in
     let a = l .before .before .before .args in
+    let q = isAt (a .kind) (a .instance) in
     let ss = records (now (a .site)) in
     let h : l .loop .i < length ss = omega arith in
-    let w = walk-place (isAt (a .kind) (a .instance)) ss (l .loop .i) h in
-    (l .loop .inv .0, sym (rw (← c .before .before .record-at .ensures .0, ← c .before .is-at .ensures, c .if1 .left) at w) ∙ l .loop .inv .1)
+    let n = rw (c .before .is-at .ensures, c .before .before .record-at .ensures .0) at (c .if1 .left) in
+    (l .loop .inv .0, past (placeFrom q) q (place-passes q) ss (l .loop .i) h n (l .loop .inv .1))
 
 returns-2 : tie.Need-returns-2 Inv-loop μ-loop
+unfolding placeFrom
 returns-2 c =
     let l = c .before in
-    let a = l .before .before .before .args in
-    sym (place-end (isAt (a .kind) (a .instance)) (records (now (a .site))) (l .loop .i) (omega arith)) ∙ l .loop .inv .1
+    rw (← l .loop .inv .1, left-end (records (now (l .before .before .before .args .site))) (l .loop .i) (omega arith))
 
 pub place-of-spec : {M : Type 1} → statement M
 place-of-spec =

@@ -8,5 +8,5 @@ location-in-range-spec =
     tie.close
     (tie.spec
     (λ c κs. search needs) (λ c κs. search needs) (λ c κs. search needs)
-    (λ c. rw (← c .before .is-everywhere .ensures, c .if1 .taken, c .before .before .get-u32 .ensures, c .before .before .before .get-u8 .ensures))
-    (λ c. rw (← c .before .is-everywhere .ensures, c .if1 .left, c .before .before .get-u32 .ensures, c .before .before .before .get-u8 .ensures)))
+    (λ c. rw (← c .before .flag-of .ensures, c .if1 .taken, c .before .before .get-u32 .ensures, c .before .before .before .get-u8 .ensures))
+    (λ c. rw (← c .before .flag-of .ensures, c .if1 .left, c .before .before .get-u32 .ensures, c .before .before .before .get-u8 .ensures)))

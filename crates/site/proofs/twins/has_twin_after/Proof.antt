@@ -1,58 +1,83 @@
--- What is left decides: a twin among what is left is one among all after the i-th.
+-- Along the chain from the i-th record on: a twin among what is left is one among all after it.
 use Prim.Native.Nat.{_+_, _<_, _-_}
 use mathlib.Core.Path.{_≡_, refl, sym, _∙_}
 use mathlib.Core.List.{[]}
-use mathlib.Core.Bool.{false}
 use native.Mathlib.Omega.{arith}
 use borrow.Author.Needs.{needs}
+use borrow.Author.Tests.{eq-eqb}
 use lib.ListN.{length, getD, drop}
 use denote.Ref.{now}
 use Rattle.model.specs.Words.{any}
 use Rattle.model.specs.Site.{records}
 use Rattle.model.specs.Accept.{twins}
-use Rattle.site.proofs.Records.{length-records}
-use Rattle.site.proofs.Walk.{walk-any, any-end}
+use Rattle.index.specs.Index.{bucketOf}
+use Rattle.index.proofs.Walks.{left-turn, left-end, Walk, walk-on, walk-past, link-after}
+use Rattle.index.proofs.Buckets.{twins-bucket}
+use Rattle.site.proofs.Passed.{anyOf, any-passes, rule-alone}
 use Rattle.site.proofs.twins.has_twin_after.Statement.{statement}
 use Rattle.site.proofs.twins.has_twin_after.Tie as tie
 
 abbrev Inv-loop : tie.InvT-loop
-Inv-loop site i n part j₀ j =
+Inv-loop site index i n part j₀ j =
     (n ≡ length (records site))
-    × (any (twins (getD (records site) i [])) (drop j (records site)) ≡ any (twins (getD (records site) i [])) (drop (i + 1) (records site)))
+    × Walk (anyOf (twins (getD (records site) i []))) (bucketOf (getD (records site) i [])) i
+    (any (twins (getD (records site) i [])) (drop (i + 1) (records site))) (records site) j
 
 abbrev μ-loop : tie.MeasureT-loop
-μ-loop site i n part j₀ j = n - j
-
-loop-holds : tie.Need-loop-holds Inv-loop μ-loop
-loop-holds c = (c .before .record-count .ensures, refl)
+μ-loop site index i n part j₀ j = n - j
 
 returns : tie.Need-returns Inv-loop μ-loop
 returns c =
-    let l = c .before .before .before .before in
-    let a = l .before .before .before .before .args in
+    let a = c .before .before .before .before .before .before .args in
     let ss = records (now (a .site)) in
-    let h : l .loop .j < length ss = omega arith in
-    rw (← l .loop .inv .1, walk-any (twins (getD ss (a .i) [])) ss (l .loop .j) h, ← l .before .record-at .ensures .0, ← c .before .before .record-at2 .ensures .0, ← c .before .twins .ensures, c .if1 .taken)
+    let s = getD ss (a .i) [] in
+    sym (rule-alone s (drop (a .i + 1) ss) (rw (← c .before .before .record-at .ensures .0, ← c .before .get-u8 .ensures) (eq-eqb _ _ (c .if1 .taken))))
 
-add-j-2 : tie.Need-add-j-2 Inv-loop μ-loop
-add-j-2 c = omega (arith, length-records (now (c .before .before .before .before .before .before .before .before .args .site)))
-
-loop-again : tie.Need-loop-again Inv-loop μ-loop
-loop-again c =
-    let l = c .before .before .before .before in
-    let a = l .before .before .before .before .args in
+loop-holds : tie.Need-loop-holds Inv-loop μ-loop
+loop-holds c =
+    let st = c .before .before .before .before .before .before .before in
+    let a = st .args in
     let ss = records (now (a .site)) in
-    let h : l .loop .j < length ss = omega arith in
-    let w = walk-any (twins (getD ss (a .i) [])) ss (l .loop .j) h in
-    let t : twins (getD ss (a .i) []) (getD ss (l .loop .j) []) ≡ false = rw (← l .before .record-at .ensures .0, ← c .before .before .record-at2 .ensures .0, ← c .before .twins .ensures) (c .if1 .left) in
-    (l .loop .inv .0, sym (rw t at w) ∙ l .loop .inv .1)
+    let s = getD ss (a .i) [] in (
+      c .before .before .before .before .record-count .ensures,
+      walk-on (anyOf (twins s)) (twins s) (any-passes (twins s)) ss (bucketOf s) (twins-bucket s) (a .i) (now (a .index)) (st .pre .0)
+          (a .i) (c .next-of .result) (st .pre .1) (omega arith) refl refl (c .next-of .ensures),
+    )
 
 returns-2 : tie.Need-returns-2 Inv-loop μ-loop
 returns-2 c =
-    let l = c .before in
-    let a = l .before .before .before .before .args in
+    let l = c .before .before .before .before in
+    let ss = records (now (l .before .before .before .before .before .before .before .before .args .site)) in
+    let h : l .loop .j < length ss = omega arith in
+    rw (← l .loop .inv .1 .left, left-turn ss (l .loop .j) h, ← l .before .before .before .before .record-at .ensures .0, ← c .before .before .record-at2 .ensures .0, ← c .before .twins .ensures, c .if2 .taken)
+
+next-of-requires-2 : tie.Need-next-of-requires-2 Inv-loop μ-loop
+next-of-requires-2 c κs =
+    let x = c .before .before .before .before .before .before .before .before .before .before .before .before .pre .0 in
+    (x .size, omega (arith, x .few))
+
+loop-less : tie.Need-loop-less Inv-loop μ-loop
+loop-less c =
+    let l = c .before .before .before .before .before in
+    let s = l .before .before .before .before .before .before .before .before in
+    let h : l .loop .j < length (records (now (s .args .site))) = omega arith in
+    omega (arith, c .next-of2 .ensures, link-after (s .args .i) (records (now (s .args .site))) (now (s .args .index)) (s .pre .0) (l .loop .j) (l .loop .inv .1 .low) h)
+
+loop-again : tie.Need-loop-again Inv-loop μ-loop
+loop-again c =
+    let l = c .before .before .before .before .before in
+    let st = l .before .before .before .before .before .before .before .before in
+    let a = st .args in
     let ss = records (now (a .site)) in
-    sym (any-end (twins (getD ss (a .i) [])) ss (l .loop .j) (omega arith)) ∙ l .loop .inv .1
+    let s = getD ss (a .i) [] in
+    let h : l .loop .j < length ss = omega arith in
+    let n = rw (c .before .before .twins .ensures, l .before .before .before .before .record-at .ensures .0, c .before .before .before .record-at2 .ensures .0) at (c .before .if2 .left) in
+    (l .loop .inv .0, walk-past (anyOf (twins s)) (twins s) (any-passes (twins s)) ss (bucketOf s) (twins-bucket s) (a .i) (now (a .index)) (st .pre .0) (l .loop .j) (c .next-of2 .result) h (l .loop .inv .1) n (c .next-of2 .ensures))
+
+returns-3 : tie.Need-returns-3 Inv-loop μ-loop
+returns-3 c =
+    let l = c .before in
+    rw (← l .loop .inv .1 .left, left-end (records (now (l .before .before .before .before .before .before .before .before .args .site))) (l .loop .j) (omega arith))
 
 pub has-twin-after-spec : {M : Type 1} → statement M
 has-twin-after-spec =
@@ -61,13 +86,15 @@ has-twin-after-spec =
     Inv-loop
     μ-loop
     (λ c κs. tt)
-    (λ c κs. c .before .before .pre)
-    (λ c. search needs)
+    (λ c κs. c .before .before .before .pre .1)
+    (λ c κs. omega (arith, c .record-at .ensures .1))
+    returns
+    (λ c κs. let x = c .before .before .before .before .before .before .pre .0 in (x .size, omega (arith, x .few, c .before .before .before .before .before .before .pre .1)))
     loop-holds
     (λ c κs. search needs)
-    (λ c κs. (c .before .before .before .record-at .ensures .1, c .record-at2 .ensures .1))
-    returns
-    add-j-2
-    (λ c. search needs)
+    (λ c κs. (c .before .before .before .before .before .before .record-at .ensures .1, c .record-at2 .ensures .1))
+    returns-2
+    next-of-requires-2
+    loop-less
     loop-again
-    returns-2)
+    returns-3)

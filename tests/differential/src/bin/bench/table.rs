@@ -1,0 +1,128 @@
+//! The table of all figures, and the summary of each shape.
+
+use crate::calls::{LONGEST, ONE_ENTRY};
+use crate::meter::Meter;
+
+/// The sizes that the summary is about.
+const LARGEST: usize = 2_000;
+const HALF: usize = 1_000;
+
+/// The figures of one site.
+pub struct Site {
+    pub shape: &'static str,
+    pub records: usize,
+    /// By call: of the proved, the hashed and the linear engine.
+    pub calls: Vec<(&'static str, [f64; 3])>,
+    pub floor: f64,
+}
+
+impl Site {
+    fn of(&self, call: &str) -> Option<[f64; 3]> {
+        let found = self.calls.iter().find(|(name, _)| *name == call);
+        found.map(|(_, figures)| *figures)
+    }
+
+    pub fn print(&self, meter: &impl Meter) {
+        let title = format!("{:<12}{:>6}  ", self.shape, self.records);
+        for (call, figures) in &self.calls {
+            let [proved, hashed, linear] = *figures;
+            let [a, b, c] = figures.map(|figure| meter.show(figure));
+            let ratios = [proved / hashed, proved / linear];
+            println!(
+                "{title}{call:<16}{a:>15}{b:>15}{c:>15}{:>10.2}{:>10.2}",
+                ratios[0], ratios[1]
+            );
+        }
+        println!("{title}{:<16}{:>15}", "read once", meter.show(self.floor));
+    }
+}
+
+pub fn print_heading() {
+    println!(
+        "{:<12}{:>6}  {:<16}{:>15}{:>15}{:>15}{:>10}{:>10}",
+        "shape", "size", "call", "proved", "hashed", "linear", "/hashed", "/linear"
+    );
+}
+
+/// A column of the summary: its heading, the aim and the figure of the largest site, with that of
+/// half the size.
+struct Column {
+    heading: [&'static str; 2],
+    aim: &'static str,
+    figure: fn(&Site, Option<&Site>) -> Option<f64>,
+}
+
+fn ratio(site: &Site, call: &str, to: usize) -> Option<f64> {
+    let figures = site.of(call)?;
+    Some(figures[0] / figures[to])
+}
+
+fn growth(site: &Site, half: Option<&Site>, call: &str) -> Option<f64> {
+    Some(site.of(call)?[0] / half?.of(call)?[0])
+}
+
+const HASHED: usize = 1;
+const LINEAR: usize = 2;
+
+const COLUMNS: [Column; 7] = [
+    Column {
+        heading: [ONE_ENTRY, "/hashed"],
+        aim: "0.50",
+        figure: |site, _| ratio(site, ONE_ENTRY, HASHED),
+    },
+    Column {
+        heading: [LONGEST, "/hashed"],
+        aim: "0.50",
+        figure: |site, _| ratio(site, LONGEST, HASHED),
+    },
+    Column {
+        heading: [ONE_ENTRY, "growth"],
+        aim: "2.20",
+        figure: |site, half| growth(site, half, ONE_ENTRY),
+    },
+    Column {
+        heading: [LONGEST, "growth"],
+        aim: "2.20",
+        figure: |site, half| growth(site, half, LONGEST),
+    },
+    Column {
+        heading: [ONE_ENTRY, "/read once"],
+        aim: "3.00",
+        figure: |site, _| Some(site.of(ONE_ENTRY)?[0] / site.floor),
+    },
+    Column {
+        heading: [ONE_ENTRY, "/linear"],
+        aim: "1.00*",
+        figure: |site, _| ratio(site, ONE_ENTRY, LINEAR),
+    },
+    Column {
+        heading: [LONGEST, "/linear"],
+        aim: "1.00*",
+        figure: |site, _| ratio(site, LONGEST, LINEAR),
+    },
+];
+
+/// A line for each shape that was measured at its largest.
+pub fn print_summary(sites: &[Site]) {
+    println!("\nThe proved engine at {LARGEST} records; growth is that from {HALF}.");
+    print_line("", |column| column.heading[0].into());
+    print_line("", |column| column.heading[1].into());
+    print_line("aim", |column| column.aim.into());
+    for site in sites.iter().filter(|site| site.records == LARGEST) {
+        let mut halves = sites.iter().filter(|half| half.records == HALF);
+        let half = halves.find(|half| half.shape == site.shape);
+        print_line(site.shape, |column| {
+            let figure = (column.figure)(site, half);
+            figure.map_or("-".into(), |figure| format!("{figure:.2}"))
+        });
+    }
+    println!("* the aim of the colliding shape, in place of those beside the hashed engine");
+}
+
+fn print_line(name: &str, text: impl Fn(&Column) -> String) {
+    print!("{name:<12}");
+    for column in &COLUMNS {
+        print!("{:>16}", text(column));
+    }
+    println!();
+}
