@@ -1,18 +1,16 @@
--- The laws of the walk over the rules: a record that is no rule, a turn of the walk, its end.
+-- The laws of one record: when it is a rule of the rights, and when it adds nothing.
 use mathlib.Core.Path.{_≡_, refl}
 use mathlib.Core.List.{List, [], _∷_}
-use mathlib.Core.Bool.{Bool, true, false, not, _&&_, _||_, and-true, and-false, or-assoc, or-false, or-self}
-use Prim.Native.Nat.{ℕ, _+_, _≤_, _<_}
-use native.Mathlib.Numerals.{add-one}
+use mathlib.Core.Bool.{Bool, true, false, not, _&&_, _||_, and-true, and-false, or-false, or-self}
+use Prim.Native.Nat.{ℕ}
 use lib.Dec.{eqb}
-use lib.ListN.{length, drop, getD, drop-of-length-le}
-use lib.Seq.{drop-cons}
 use borrow.Author.Tests.{eqb-true}
 use Rattle.model.specs.Numbers.{NONE, access-rule}
 use Rattle.model.specs.Site.{kind, instance, enabled}
 use Rattle.model.specs.Checks.{enabledRule, locationFits, verdict}
 use Rattle.model.specs.declared.Verdict.{Verdict}
-use Rattle.rules.specs.Walk.{both}
+use Rattle.rules.specs.declared.Asked.{Asked}
+use Rattle.rules.specs.Walk.{findings, both}
 
 -- A record of another kind is no rule.
 pub other-kind : (first second : ℕ) (s : List ℕ) → eqb (kind s) access-rule ≡ false → enabledRule first second s ≡ false
@@ -44,26 +42,11 @@ of-number first second i h = go (eqb i first) refl (eqb i second) refl h
     go false e false f h = cc
 
 -- A record that is no enabled rule of the rights adds nothing.
-pub no-rule : (first second point to time : ℕ) (v : Verdict) (s : List ℕ) → enabledRule first second s ≡ false →
-    both v (verdict first second point to time (s ∷ [])) ≡ v
+pub no-rule : (a : Asked) (v : Verdict) (s : List ℕ) → enabledRule (a .first) (a .second) s ≡ false → both v (findings a (s ∷ [])) ≡ v
 unfolding both verdict
-no-rule first second point to time v s h = rw h (simp or-false)
+no-rule a v s h = rw h (simp or-false)
 
 -- A rule that holds elsewhere adds nothing.
-pub elsewhere : (first second point to time : ℕ) (v : Verdict) (s : List ℕ) → locationFits point to s ≡ false →
-    both v (verdict first second point to time (s ∷ [])) ≡ v
+pub elsewhere : (a : Asked) (v : Verdict) (s : List ℕ) → locationFits (a .point) (a .to) s ≡ false → both v (findings a (s ∷ [])) ≡ v
 unfolding both verdict
-elsewhere first second point to time v s h = rw h (simp (and-false, or-false))
-
-module _ (first second point to time : ℕ) (v : Verdict) (ss : List (List ℕ)) (i : ℕ) where
-  -- A turn of the walk: the i-th record, and those after it.
-  pub walk-step : i < length ss →
-      both v (verdict first second point to time (drop i ss))
-      ≡ both (both v (verdict first second point to time (getD ss i [] ∷ []))) (verdict first second point to time (drop (i + 1) ss))
-  unfolding both verdict
-  walk-step h = rw (drop-cons ss i [] h, add-one i) (simp (or-false, or-assoc))
-
-  -- The end of the walk: no record is left.
-  pub walk-end : length ss ≤ i → both v (verdict first second point to time (drop i ss)) ≡ v
-  unfolding both verdict
-  walk-end h = rw (drop-of-length-le ss h) (simp or-false)
+elsewhere a v s h = rw h (simp (and-false, or-false))

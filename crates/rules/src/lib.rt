@@ -1,5 +1,5 @@
 // Step 9 of the order of checks: what the enabled rules of a credential's rights say at a point and a time.
-// The fields of a rule are read out of its record, a 32-byte part of the lent site.
+// Rules are found by the index of the site, and the fields of a rule are read out of its record, a 32-byte part of the lent site.
 
 use model::Verdict;
 use model::numbers::ACCESS_POINT;
@@ -14,9 +14,20 @@ ghost use mathlib.Core.Path.{_≡_};
 ghost use mathlib.Core.List.{[], _∷_};
 ghost use Prim.Native.Nat.{_<_};
 ghost use lib.ListN.{length};
+ghost use Rattle.model.specs.Words.{keep};
 ghost use Rattle.model.specs.Site.{records};
-ghost use Rattle.model.specs.Checks.{enabledRule, locationFits, weekday, minuteOfDay, timeFits, verdict};
-ghost use Rattle.rules.specs.Walk.{both};
+ghost use Rattle.model.specs.Checks.{enabledRule, locationFits, weekday, minuteOfDay, timeFits};
+ghost use Rattle.index.specs.Index.{buckets, Indexed};
+ghost use Rattle.rules.specs.Walk.{both, findings, inBucket, inRights};
+
+// What the rules are asked: the rights numbers of a credential, a point with its Zone_To, a time.
+pub struct Asked {
+    pub first: u32,
+    pub second: u32,
+    pub point: u32,
+    pub to: u32,
+    pub time: u32,
+}
 
 // The day of the week of a time, 0 for Monday.
 pub fn weekday_of(time: u32) -> u8
@@ -72,26 +83,18 @@ pub fn time_fits(part: &[u8], time: u32) -> bool
 }
 
 // What is found so far, with what a record adds to it.
-pub fn with_record(
-    v: Verdict,
-    part: &[u8],
-    first: u32,
-    second: u32,
-    point: u32,
-    to: u32,
-    time: u32,
-) -> Verdict
+fn with_record(v: Verdict, part: &[u8], a: Asked) -> Verdict
     requires { ⌜ length (now part) ≡ 32 ⌝ }
-    ensures { λ r. ⌜ r ≡ both v (verdict first second point to time (now (part .entry) ∷ [])) ⌝ }
+    ensures { λ r. ⌜ r ≡ both v (findings a (now (part .entry) ∷ [])) ⌝ }
 {
-    if !is_enabled_rule(part, first, second) {
+    if !is_enabled_rule(part, a.first, a.second) {
         return v;
     }
-    if !location_fits(part, point, to) {
+    if !location_fits(part, a.point, a.to) {
         return v;
     }
     let negative = records::flag_of(part, 1);
-    let timely = time_fits(part, time);
+    let timely = time_fits(part, a.time);
     Verdict {
         negative_fits: v.negative_fits | (negative & timely),
         positive_fits: v.positive_fits | (!negative & timely),
@@ -99,20 +102,44 @@ pub fn with_record(
     }
 }
 
-// What the rules of the site find.
-pub fn verdict_of(site: &[u8], first: u32, second: u32, point: u32, to: u32, time: u32) -> Verdict
-    ensures { λ r. ⌜ r ≡ verdict first second point to time (records (now (site .entry))) ⌝ }
+// What is found so far, with what the records of a bucket add to it: only those of its chain are read.
+fn with_bucket(site: &[u8], index: &[u16], found: Verdict, bucket: usize, a: Asked) -> Verdict
+    requires { ⌜ Indexed (now site) (now index) × (bucket < buckets) ⌝ }
+    ensures { λ r. ⌜ r ≡ both found (findings a (keep (inBucket bucket) (records (now (site .entry))))) ⌝ }
 {
-    let n = octets::group_count(site);
-    let mut v = Verdict {
+    let n = index::record_count(site);
+    let mut v = found;
+    let mut i = index::first_of(index, bucket);
+    while i < n {
+        v = with_record(v, index::record_at(site, i), a);
+        i = index::next_of(index, i);
+    }
+    v
+}
+
+// The same of three buckets: a rule of a rights number that fits in location is in one of them.
+fn with_rights(site: &[u8], index: &[u16], found: Verdict, rights: u32, a: Asked) -> Verdict
+    requires { ⌜ Indexed (now site) (now index) ⌝ }
+    ensures { λ r. ⌜ r ≡ both found (findings a (keep (inRights rights a) (records (now (site .entry))))) ⌝ }
+{
+    let everywhere = index::rule_bucket(rights, 0, 0);
+    let at_point = index::rule_bucket(rights, ACCESS_POINT, a.point);
+    let at_zone = index::rule_bucket(rights, ACCESS_ZONE, a.to);
+    let v = with_bucket(site, index, found, everywhere, a);
+    let w = with_bucket(site, index, v, at_point, a);
+    with_bucket(site, index, w, at_zone, a)
+}
+
+// What the rules of the site find. The buckets of NONE are walked too: a rule of that number counts for nothing.
+pub fn verdict_of(site: &[u8], index: &[u16], a: Asked) -> Verdict
+    requires { ⌜ Indexed (now site) (now index) ⌝ }
+    ensures { λ r. ⌜ r ≡ findings a (records (now (site .entry))) ⌝ }
+{
+    let nothing = Verdict {
         negative_fits: false,
         positive_fits: false,
         positive_located: false,
     };
-    let mut i = 0;
-    while i < n {
-        v = with_record(v, octets::group(site, i), first, second, point, to, time);
-        i += 1;
-    }
-    v
+    let v = with_rights(site, index, nothing, a.first, a);
+    with_rights(site, index, v, a.second, a)
 }

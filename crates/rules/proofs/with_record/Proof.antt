@@ -14,14 +14,14 @@ returns : tie.Need-returns
 returns c =
     let a = c .before .before .before .args in
     sym
-    (no-rule (a .first) (a .second) (a .point) (a .to) (a .time) (a .v) (now (a .part))
+    (no-rule (a .a) (a .v) (now (a .part))
     (sym (c .before .is-enabled-rule .ensures) ∙ not-true _ (c .if1 .taken)))
 
 returns-2 : tie.Need-returns-2
 returns-2 c =
     let a = c .before .before .before .before .before .args in
     sym
-    (elsewhere (a .first) (a .second) (a .point) (a .to) (a .time) (a .v) (now (a .part))
+    (elsewhere (a .a) (a .v) (now (a .part))
     (sym (c .before .location-fits .ensures) ∙ not-true _ (c .if2 .taken)))
 
 returns-3 : tie.Need-returns-3
