@@ -20,7 +20,7 @@ use Rattle.model.proofs.RoundTrip.{length-zone, length-point, length-credential
 use Rattle.site.specs.Place.{placeOf}
 use Rattle.site.proofs.Places.{place-found}
 use Rattle.site.proofs.Panels as Panels
-use Rattle.site.proofs.Records.{length-records}
+use Rattle.index.proofs.Building.{length-records}
 use Rattle.journal.specs.Places.{partAt, seekPlace, placeBelow, writePlace, stored, written, applied, Placed}
 use Rattle.site.specs.declared.Place.{Place}
 use Rattle.site.specs.declared.Place.the-variants.{At, Nothing}

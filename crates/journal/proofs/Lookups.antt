@@ -1,14 +1,19 @@
--- Parts that were found or not.
+-- Parts that were found or not, and what is looked up.
 use Prim.Native.Nat.{ℕ, _/_, _≤_}
 use native.Mathlib.Omega.{arith}
-use mathlib.Core.Path.{_≡_}
+use mathlib.Core.Path.{_≡_, refl}
 use mathlib.Core.List.{List, []}
-use mathlib.Core.Bool.{not}
+use mathlib.Core.Bool.{Bool, true, false, not}
 use lib.Dec.{eqb}
 use lib.ListN.{length, getD, List·getD-eq-default}
 use Rattle.octets.specs.Octets.{groups}
 use Rattle.octets.proofs.Groups.{length-groups}
-use Rattle.model.specs.Words.{missing}
+use Rattle.model.specs.Words.{if_then_else_, missing}
+use Rattle.model.specs.Site.{findIn}
+use Rattle.model.specs.Entry.{objectKind}
+use Rattle.model.specs.declared.Operation.{Operation}
+use Rattle.model.specs.declared.Operation.the-variants.{Factor, SetCount, AdjustCount, SetDisable, SetService, Unknown}
+use Rattle.index.specs.Index.{ByInstance}
 use Rattle.site.proofs.Records.{no-bytes}
 
 -- A part was found where it has a length.
@@ -20,3 +25,17 @@ pub group-past : (i : ℕ) (s : List ℕ) → length s / 32 ≤ i → getD (grou
 group-past i s h =
     let l : length (groups 32 (length s / 32) s) ≤ i = omega (arith, length-groups 32 (length s / 32) s) in
     List·getD-eq-default (groups 32 (length s / 32) s) [] l
+
+-- What one of two tests finds.
+pub find-either : (c : Bool) (p q : List ℕ → Bool) (ss : List (List ℕ)) → findIn (if not c then p else q) ss ≡ if c then findIn q ss else findIn p ss
+find-either true p q ss = refl
+find-either false p q ss = refl
+
+-- The objects of operations are looked up by their instance.
+pub object-by-instance : (o : Operation) → ByInstance (objectKind o)
+object-by-instance Factor = (λ p. omega arith, λ p. omega arith)
+object-by-instance SetCount = (λ p. omega arith, λ p. omega arith)
+object-by-instance AdjustCount = (λ p. omega arith, λ p. omega arith)
+object-by-instance SetDisable = (λ p. omega arith, λ p. omega arith)
+object-by-instance SetService = (λ p. omega arith, λ p. omega arith)
+object-by-instance Unknown = (λ p. omega arith, λ p. omega arith)

@@ -10,6 +10,7 @@ ghost use Rattle.model.specs.Site.{records, pointOf};
 ghost use Rattle.model.specs.Checks.{factorFor, credentialRead};
 ghost use Rattle.journal.specs.Places.{partAt, seekPlace};
 ghost use Rattle.journal.specs.Gather.{gathered};
+ghost use Rattle.index.specs.Index.{ByInstance, Indexed};
 use super::Gathered;
 use super::Places;
 use model::Entry;
@@ -20,7 +21,8 @@ use model::numbers::ACCESS_CREDENTIAL;
 use model::numbers::ACCESS_ZONE;
 use site::CredentialId;
 use site::Place;
-use site::lookup;
+use site::Presented;
+use site::indexed;
 
 fn group_or_none(bytes: &[u8], i: usize) -> &[u8]
     ensures { λ r. ⌜ (now r ≡ getD (groups 32 (length (now (bytes .entry)) / 32) (now (bytes .entry))) i []) × (missing (now r) ≡ false → length (now r) ≡ 32) ⌝ }
@@ -42,24 +44,30 @@ pub fn part_at(bytes: &[u8], place: Place) -> &[u8]
 }
 
 // The place of what a reference names.
-pub fn seek_place(site: &[u8], kind: u8, instance: u32) -> Place
+pub fn seek_place(site: &[u8], index: &[u16], kind: u8, instance: u32) -> Place
+    requires { ⌜ Indexed (now site) (now index) ⌝ }
+    requires { ⌜ ByInstance kind ⌝ }
     ensures { λ r. ⌜ r ≡ seekPlace kind instance (now (site .entry)) ⌝ }
 {
     if instance == numbers::NONE {
         return Place::Nothing;
     }
-    lookup::place_of(site, kind, instance)
+    indexed::place_of(site, index, kind, instance)
 }
 
 // The factor that was read, at a point that waits for a credential or for nobody.
-fn factor_for(site: &[u8], waiting: u32, e: Entry) -> &[u8]
+fn factor_for<'a>(site: &'a [u8], index: &[u16], waiting: u32, e: Entry) -> &'a [u8]
+    requires { ⌜ Indexed (now site) (now index) ⌝ }
     ensures { λ r. ⌜ (now r ≡ factorFor waiting e (records (now (site .entry)))) × (missing (now r) ≡ false → length (now r) ≡ 32) ⌝ }
 {
     let value = e.value;
-    if waiting == numbers::NONE {
-        return lookup::find_identifying(site, e.argument, value);
-    }
-    lookup::find_confirming(site, CredentialId(waiting), e.argument, value)
+    let presented = Presented {
+        confirms: waiting != numbers::NONE,
+        credential: CredentialId(waiting),
+        format: e.argument,
+        value: value,
+    };
+    indexed::find_factor(site, index, presented)
 }
 
 fn is_found(part: &[u8]) -> bool
@@ -83,16 +91,24 @@ fn credential_read(waiting: u32, factor: &[u8]) -> u32
 }
 
 // The view of a factor read at a point, which stands at a place.
-pub fn gather(site: &[u8], state: &[u8], e: Entry, place: Place, point: Point) -> Gathered
+pub fn gather(
+    site: &[u8],
+    index: &[u16],
+    state: &[u8],
+    e: Entry,
+    place: Place,
+    point: Point,
+) -> Gathered
+    requires { ⌜ Indexed (now site) (now index) ⌝ }
     requires { ⌜ point ≡ pointOf (partAt place (now site)) ⌝ }
     ensures { λ r. ⌜ r ≡ gathered place e (now (site .entry)) (now (state .entry)) ⌝ }
 {
     let point_state = records::point_state_of(part_at(state, place));
-    let factor = factor_for(site, point_state.waiting_credential, e);
+    let factor = factor_for(site, index, point_state.waiting_credential, e);
     let number = credential_read(point_state.waiting_credential, factor);
-    let zone_to = seek_place(site, ACCESS_ZONE, point.zone_to);
-    let zone_from = seek_place(site, ACCESS_ZONE, point.zone_from);
-    let credential = seek_place(site, ACCESS_CREDENTIAL, number);
+    let zone_to = seek_place(site, index, ACCESS_ZONE, point.zone_to);
+    let zone_from = seek_place(site, index, ACCESS_ZONE, point.zone_from);
+    let credential = seek_place(site, index, ACCESS_CREDENTIAL, number);
     let view = View {
         point: point,
         point_state: point_state,

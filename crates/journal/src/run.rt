@@ -7,6 +7,7 @@ ghost use Rattle.octets.specs.Octets.{withPart};
 ghost use Rattle.model.specs.State.{panel, stateOf};
 ghost use Rattle.model.specs.Entry.{entryOf, entries, answerBytes};
 ghost use Rattle.model.specs.Step as m;
+ghost use Rattle.index.specs.Index.{Indexed};
 use super::Cursor;
 use super::step::step;
 use model::Answer;
@@ -23,7 +24,8 @@ fn put_answer(answers: &mut [u8], k: usize, a: Answer)
     records::write_answer(&mut answers[start..end], a);
 }
 
-pub fn run(site: &[u8], state: &mut [u8], journal: &[u8], answers: &mut [u8])
+pub fn run(site: &[u8], index: &[u16], state: &mut [u8], journal: &[u8], answers: &mut [u8])
+    requires { ⌜ Indexed (now site) (now index) ⌝ }
     requires { ⌜ (length (now site) % 32 ≡ 0) × (length (now state) ≡ length (now site)) ⌝ }
     requires { ⌜ length (now answers) ≡ length (now journal) / 24 * 16 ⌝ }
     ensures { λ _. ⌜ now (state .exit) ≡ stateOf (m.after (panel (now (site .entry)) (now (state .entry))) (map entryOf (entries (now (journal .entry))))) ⌝ }
@@ -34,7 +36,7 @@ pub fn run(site: &[u8], state: &mut [u8], journal: &[u8], answers: &mut [u8])
     let mut k = 0;
     while k < n {
         let e = c.read(journal);
-        let a = step(site, state, e);
+        let a = step(site, index, state, e);
         put_answer(answers, k, a);
         c = c.next();
         k += 1;

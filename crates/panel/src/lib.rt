@@ -1,6 +1,11 @@
 // The calls, on slices. Every call checks the site anew, and nothing is written before all checks have passed.
 ghost use mathlib.Core.Path.{_≡_};
 ghost use Rattle.model.specs.Calls.{number, isWorked, checkSite, freshReturned, freshState, runReturned, runJournal};
+ghost use mathlib.Core.Bool.{true};
+ghost use lib.ListN.{length};
+ghost use Rattle.index.specs.Index.{index-size, Indexed};
+use index::INDEX_SIZE;
+use index::UNBUILT;
 use model::Returned;
 use model::numbers::ANSWER_SIZE;
 use model::numbers::ENTRY_SIZE;
@@ -33,13 +38,15 @@ pub fn is_worked(r: Returned) -> bool
 pub fn check_site(site: &[u8]) -> Returned
     ensures { λ r. ⌜ r ≡ checkSite (now (site .entry)) ⌝ }
 {
-    site::check::check_site(site)
+    let mut index = [UNBUILT; INDEX_SIZE];
+    site::check::check_site(site, &mut index)
 }
 
-fn fresh_returned(site: &[u8], state: &[u8]) -> Returned
-    ensures { λ r. ⌜ r ≡ freshReturned (now (site .entry)) (now (state .entry)) ⌝ }
+fn fresh_returned(site: &[u8], index: &mut [u16], state: &[u8]) -> Returned
+    requires { ⌜ length (now index) ≡ index-size ⌝ }
+    ensures { λ r. ⌜ (r ≡ freshReturned (now (site .entry)) (now (state .entry))) × (isWorked r ≡ true → Indexed (now (site .entry)) (now (index .exit))) ⌝ }
 {
-    let r = check_site(site);
+    let r = site::check::check_site(site, index);
     if !is_worked(r) {
         return r;
     }
@@ -53,7 +60,8 @@ fn fresh_returned(site: &[u8], state: &[u8]) -> Returned
 pub fn fresh_state(site: &[u8], state: &mut [u8]) -> Returned
     ensures { λ r. ⌜ (r ≡ freshState (now (site .entry)) (now (state .entry)) .returned) × (now (state .exit) ≡ freshState (now (site .entry)) (now (state .entry)) .state) ⌝ }
 {
-    let r = fresh_returned(site, state);
+    let mut index = [UNBUILT; INDEX_SIZE];
+    let r = fresh_returned(site, &mut index, state);
     if !is_worked(r) {
         return r;
     }
@@ -61,14 +69,21 @@ pub fn fresh_state(site: &[u8], state: &mut [u8]) -> Returned
     r
 }
 
-fn run_returned(site: &[u8], state: &[u8], journal: &[u8], answers: &[u8]) -> Returned
-    ensures { λ r. ⌜ r ≡ runReturned (now (site .entry)) (now (state .entry)) (now (journal .entry)) (now (answers .entry)) ⌝ }
+fn run_returned(
+    site: &[u8],
+    index: &mut [u16],
+    state: &[u8],
+    journal: &[u8],
+    answers: &[u8],
+) -> Returned
+    requires { ⌜ length (now index) ≡ index-size ⌝ }
+    ensures { λ r. ⌜ (r ≡ runReturned (now (site .entry)) (now (state .entry)) (now (journal .entry)) (now (answers .entry))) × (isWorked r ≡ true → Indexed (now (site .entry)) (now (index .exit))) ⌝ }
 {
-    let r = fresh_returned(site, state);
+    let r = fresh_returned(site, index, state);
     if !is_worked(r) {
         return r;
     }
-    if !state::well::is_well_formed(site, state) {
+    if !state::well::is_well_formed(site, index, state) {
         return Returned::StateForm;
     }
     if (journal.len() % ENTRY_SIZE != 0) | (LARGEST_JOURNAL < journal.len()) {
@@ -84,10 +99,11 @@ fn run_returned(site: &[u8], state: &[u8], journal: &[u8], answers: &[u8]) -> Re
 pub fn run_journal(site: &[u8], state: &mut [u8], journal: &[u8], answers: &mut [u8]) -> Returned
     ensures { λ r. ⌜ (r ≡ runJournal (now (site .entry)) (now (state .entry)) (now (journal .entry)) (now (answers .entry)) .returned) × (now (state .exit) ≡ runJournal (now (site .entry)) (now (state .entry)) (now (journal .entry)) (now (answers .entry)) .state) × (now (answers .exit) ≡ runJournal (now (site .entry)) (now (state .entry)) (now (journal .entry)) (now (answers .entry)) .answers) ⌝ }
 {
-    let r = run_returned(site, state, journal, answers);
+    let mut index = [UNBUILT; INDEX_SIZE];
+    let r = run_returned(site, &mut index, state, journal, answers);
     if !is_worked(r) {
         return r;
     }
-    journal::run::run(site, state, journal, answers);
+    journal::run::run(site, &index, state, journal, answers);
     r
 }

@@ -4,10 +4,12 @@ ghost use mathlib.Core.Path.{_≡_};
 ghost use lib.ListN.{length};
 ghost use Rattle.model.specs.Site.{records, lookup, findIn};
 ghost use Rattle.model.specs.Calls.{freshState, runJournal};
-ghost use Rattle.view.specs.Object.{kindOf, instanceOf, fits};
+ghost use Rattle.site.specs.Factor.{fits};
+ghost use Rattle.view.specs.Object.{kindOf, instanceOf};
 use model::Returned;
 use site::CredentialId;
 use site::PointId;
+use site::Presented;
 use site::RightsId;
 use site::ZoneId;
 
@@ -17,14 +19,6 @@ pub enum Object {
     Point(PointId),
     Credential(CredentialId),
     Rights(RightsId),
-}
-
-// A factor as it is presented: to identify a credential, or to confirm this one.
-pub struct Presented {
-    pub confirms: bool,
-    pub credential: CredentialId,
-    pub format: u8,
-    pub value: [u8; 8],
 }
 
 // A site's bytes, and how many records they hold.
@@ -49,11 +43,7 @@ pub fn find_object(site: &[u8], object: Object) -> &[u8]
 pub fn find_factor(site: &[u8], factor: Presented) -> &[u8]
     ensures { λ r. ⌜ now r ≡ findIn (fits factor) (records (now (site .entry))) ⌝ }
 {
-    let value = factor.value;
-    if factor.confirms {
-        return site::lookup::find_confirming(site, factor.credential, factor.format, value);
-    }
-    site::lookup::find_identifying(site, factor.format, value)
+    site::lookup::find_factor(site, factor)
 }
 
 pub fn view_of<'a>(site: &'a [u8]) -> SiteView<'a>
@@ -61,7 +51,7 @@ pub fn view_of<'a>(site: &'a [u8]) -> SiteView<'a>
 {
     SiteView {
         bytes: site,
-        records: site::lookup::record_count(site),
+        records: index::record_count(site),
     }
 }
 

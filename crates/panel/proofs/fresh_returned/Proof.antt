@@ -1,4 +1,4 @@
-use mathlib.Core.Path.{_∙_}
+use mathlib.Core.Path.{sym, _∙_}
 use borrow.Author.Tests.{eq-eqb, ne-eqb, not-true, not-false}
 use Rattle.model.specs.Calls.{freshReturned}
 use borrow.Author.Needs.{needs}
@@ -8,16 +8,29 @@ use Rattle.panel.proofs.fresh_returned.Tie as tie
 
 returns : tie.Need-returns
 unfolding freshReturned
-returns c = rw (said (c .before .before .check-site .ensures) (c .before .is-worked .ensures) ∙ not-true _ (c .if1 .taken)) (c .before .before .check-site .ensures)
+returns c =
+    let s = c .before .before .before .before .check-site in
+    (rw (said (s .ensures .0) (c .before .is-worked .ensures) ∙ not-true _ (c .if1 .taken)) (s .ensures .0), s .ensures .1)
 
 returns-2 : tie.Need-returns-2
 unfolding freshReturned
-returns-2 c = rw (said (c .before .before .before .check-site .ensures) (c .before .before .is-worked .ensures) ∙ not-false _ (c .before .if1 .left), ne-eqb _ _ (c .if2 .taken))
+returns-2 c =
+    let s = c .before .before .before .before .before .check-site in
+    let w = not-false _ (c .before .if1 .left) in
+    (rw (said (s .ensures .0) (c .before .before .is-worked .ensures) ∙ w, ne-eqb _ _ (c .if2 .taken)), λ e. s .ensures .1 (sym (c .before .before .is-worked .ensures) ∙ w))
 
 returns-3 : tie.Need-returns-3
 unfolding freshReturned
-returns-3 c = rw (said (c .before .before .before .check-site .ensures) (c .before .before .is-worked .ensures) ∙ not-false _ (c .before .if1 .left), eq-eqb _ _ (c .if2 .left))
+returns-3 c =
+    let s = c .before .before .before .before .before .check-site in
+    let w = not-false _ (c .before .if1 .left) in
+    (rw (said (s .ensures .0) (c .before .before .is-worked .ensures) ∙ w, eq-eqb _ _ (c .if2 .left)), λ e. s .ensures .1 (sym (c .before .before .is-worked .ensures) ∙ w))
 
 pub fresh-returned-spec : {M : Type 1} → statement M
 fresh-returned-spec =
-    tie.close (tie.spec (λ c κs. search needs) (λ c κs. search needs) returns returns-2 returns-3)
+    tie.close
+    (tie.spec
+    (λ c κs. search needs) (λ c κs. search needs)
+    (λ c. search needs) returns
+    (λ c. search needs) returns-2
+    (λ c. search needs) returns-3)

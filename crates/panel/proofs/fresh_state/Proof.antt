@@ -2,27 +2,33 @@ use mathlib.Core.Path.{sym, _∙_, ap}
 use denote.Ref.{now}
 use borrow.Author.Tests.{not-true, not-false}
 use Rattle.model.specs.Calls.{isWorked, freshState}
-use Rattle.panel.proofs.Laws.{lengths}
+use Rattle.panel.proofs.Laws.{lengths, said}
 use borrow.Author.Needs.{needs}
 use Rattle.panel.proofs.fresh_state.Statement.{statement}
 use Rattle.panel.proofs.fresh_state.Tie as tie
 
 returns : tie.Need-returns
 unfolding freshState
-returns c = (c .before .before .fresh-returned .ensures, rw (ap isWorked (sym (c .before .before .fresh-returned .ensures)) ∙ sym (c .before .is-worked .ensures) ∙ not-true _ (c .if1 .taken)))
+returns c =
+    let r = c .before .before .before .fresh-returned in
+    (r .ensures .0, rw (said (r .ensures .0) (c .before .is-worked .ensures) ∙ not-true _ (c .if1 .taken)))
 
 write-fresh-state-requires : tie.Need-write-fresh-state-requires
-write-fresh-state-requires c κs = let a = c .before .before .before .before .before .before .before .args in lengths (now (a .site)) (now (a .state)) (ap isWorked (sym (c .before .before .before .fresh-returned .ensures)) ∙ sym (c .before .before .is-worked .ensures) ∙ not-false _ (c .before .if1 .left))
+write-fresh-state-requires c κs =
+    let a = c .before .before .before .before .before .before .before .before .before .args in
+    lengths (now (a .site)) (now (a .state)) (said (c .before .before .before .before .fresh-returned .ensures .0) (c .before .before .is-worked .ensures) ∙ not-false _ (c .before .if1 .left))
 
 returns-2 : tie.Need-returns-2
 unfolding freshState
-returns-2 c = (c .before .before .before .before .before .before .fresh-returned .ensures, rw (ap isWorked (sym (c .before .before .before .before .before .before .fresh-returned .ensures)) ∙ sym (c .before .before .before .before .before .is-worked .ensures) ∙ not-false _ (c .before .before .before .before .if1 .left)) (c .before .before .write-fresh-state .ensures))
+returns-2 c =
+    let r = c .before .before .before .before .before .before .before .fresh-returned in
+    (r .ensures .0, rw (said (r .ensures .0) (c .before .before .before .before .before .is-worked .ensures) ∙ not-false _ (c .before .before .before .before .if1 .left)) (c .before .before .write-fresh-state .ensures))
 
 pub fresh-state-spec : {M : Type 1} → statement M
 fresh-state-spec =
     tie.close
     (tie.spec
-    (λ c κs. search needs) (λ c κs. search needs) (λ c. search needs)
+    (λ c. search needs) (λ c κs. search needs) (λ c κs. search needs) (λ c. search needs)
     returns
     write-fresh-state-requires
     (λ c. search needs)

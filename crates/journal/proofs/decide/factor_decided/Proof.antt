@@ -14,9 +14,9 @@ use Rattle.journal.proofs.decide.factor_decided.Tie as tie
 
 returns : tie.Need-returns
 returns c =
-    let s = c .before .before .before .before .before .before .before .before .before .before in
+    let s = c .before .before .before .before .before .before .before .before .before .before .before in
     let a = s .args in
-    decided-away (now (a .site)) (now (a .state)) (s .pre .0 .0) (s .pre .0 .1) (a .e) (a .place) _ (s .pre .1)
+    decided-away (now (a .site)) (now (a .state)) (s .pre .1 .0 .0) (s .pre .1 .0 .1) (a .e) (a .place) _ (s .pre .1 .1)
     (ap (λ (p : Point). p .«out_of_service») (sym (c .before .before .before .before .before .before .point-of .ensures ∙ ap pointOf (c .before .before .before .before .before .before .before .part-at .ensures .0))) ∙ c .before .before .before .before .before .if1 .taken)
     (c .at-object .ensures
     ∙ ap (λ o. atObject o (a .place))
@@ -26,14 +26,14 @@ returns c =
     (c .before .before .count-to .ensures)))
 
 gather-requires : tie.Need-gather-requires
-gather-requires c κs = c .before .point-of .ensures ∙ ap pointOf (c .before .before .part-at .ensures .0)
+gather-requires c κs = (c .before .before .before .before .before .before .pre .0, c .before .point-of .ensures ∙ ap pointOf (c .before .before .part-at .ensures .0))
 
 returns-2 : tie.Need-returns-2
 returns-2 c =
-    let s = c .before .before .before .before .before .before .before .before .before .before in
+    let s = c .before .before .before .before .before .before .before .before .before .before .before in
     let a = s .args in
     let g = c .before .before .before .before .gather .ensures in
-    decided-read (now (a .site)) (now (a .state)) (s .pre .0 .0) (s .pre .0 .1) (a .e) (a .place) _ (s .pre .1)
+    decided-read (now (a .site)) (now (a .state)) (s .pre .1 .0 .0) (s .pre .1 .0 .1) (a .e) (a .place) _ (s .pre .1 .1)
     (ap (λ (p : Point). p .«out_of_service») (sym (c .before .before .before .before .before .before .point-of .ensures ∙ ap pointOf (c .before .before .before .before .before .before .before .part-at .ensures .0))) ∙ c .before .before .before .before .before .if1 .left)
     (c .before .rules-for .result) (rw g at (c .before .rules-for .ensures)) (rw (c .factor-outcome .ensures, g))
 

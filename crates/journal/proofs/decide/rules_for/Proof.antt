@@ -7,10 +7,10 @@ use Rattle.journal.proofs.decide.rules_for.Statement.{statement}
 use Rattle.journal.proofs.decide.rules_for.Tie as tie
 
 returns : tie.Need-returns
-returns c = let a = c .before .before .before .before .args in rules-unasked (a .v) (a .e) _ _ (sym (c .before .before .asks-rules .ensures) ∙ not-true _ (c .before .if1 .taken))
+returns c = let a = c .before .before .before .before .before .args in rules-unasked (a .v) (a .e) _ _ (sym (c .before .before .asks-rules .ensures) ∙ not-true _ (c .before .if1 .taken))
 
 returns-2 : tie.Need-returns-2
-returns-2 c = let a = c .before .before .before .before .args in ap (λ r. eventOf (a .v) r (a .e)) (c .verdict-of .ensures)
+returns-2 c = let a = c .before .before .before .before .before .args in ap (λ r. eventOf (a .v) r (a .e)) (c .verdict-of .ensures)
 
 pub rules-for-spec : {M : Type 1} → statement M
 rules-for-spec =

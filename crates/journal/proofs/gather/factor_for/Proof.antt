@@ -1,20 +1,25 @@
-use mathlib.Core.Path.{refl}
-use borrow.Author.Tests.{eq-eqb, ne-eqb}
-use denote.Ref.{now}
-use Rattle.model.specs.Checks.{factorFor, identifying, confirming}
-use Rattle.site.proofs.Records.{found-whole}
+-- An identifying factor where nobody is waited for, else a confirming one.
+use mathlib.Core.Path.{_∙_}
 use borrow.Author.Needs.{needs}
+use lib.Dec.{eqb}
+use denote.Ref.{now}
+use Rattle.model.specs.Numbers.{NONE}
+use Rattle.model.specs.Site.{records}
+use Rattle.model.specs.Checks.{factorFor, identifying, confirming}
+use Rattle.site.specs.Factor.{fits}
+use Rattle.site.proofs.Records.{found-whole}
+use Rattle.journal.proofs.Lookups.{find-either}
 use Rattle.journal.proofs.gather.factor_for.Statement.{statement}
 use Rattle.journal.proofs.gather.factor_for.Tie as tie
 
 returns : tie.Need-returns
-unfolding factorFor
-returns c = let a = c .before .before .before .before .args in rw (c .find-identifying .ensures, eq-eqb _ _ (c .before .if1 .taken)) (refl, found-whole (identifying (a .e .argument) (a .e .value)) (now (a .site)))
-
-returns-2 : tie.Need-returns-2
-unfolding factorFor
-returns-2 c = let a = c .before .before .before .before .args in rw (c .find-confirming .ensures, ne-eqb _ _ (c .before .if1 .left)) (refl, found-whole (confirming (a .waiting) (a .e .argument) (a .e .value)) (now (a .site)))
+unfolding factorFor fits
+returns c =
+    let a = c .before .before .before .before .args in
+    let f = c .find-factor .ensures in (
+      f ∙ find-either (eqb (a .waiting) NONE) (confirming (a .waiting) (a .e .argument) (a .e .value)) (identifying (a .e .argument) (a .e .value)) (records (now (a .site))),
+      rw f (found-whole _ (now (a .site))),
+    )
 
 pub factor-for-spec : {M : Type 1} → statement M
-factor-for-spec =
-    tie.close (tie.spec (λ c κs. search needs) returns (λ c κs. search needs) returns-2)
+factor-for-spec = tie.close (tie.spec (λ c κs. search needs) returns)

@@ -13,11 +13,11 @@ returns c =
     let f = c .before .before .before .before in
     let z = f .before .before .before .before .before .before .before .before .before in
     let p = z .before .before .before .before .before .before .before in
-    let s = p .before .before .before in
+    let s = p .before .before .before .before in
     let a = s .args in
     gathered-from (a .place) (a .e) (now (a .site)) (now (a .state))
     refl
-    (s .pre)
+    (s .pre .1)
     (p .part-at .ensures .0)
     (z .before .before .before .before .before .before .point-state-of .ensures)
     (z .before .before .before .before .before .factor-for .ensures .0)

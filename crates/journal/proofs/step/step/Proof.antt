@@ -8,10 +8,10 @@ use Rattle.journal.proofs.step.step.Tie as tie
 
 returns : tie.Need-returns
 returns c =
-    let s = c .before .before .before .before .before .before .before .before .before .before .before in
+    let s = c .before .before .before .before .before .before .before .before .before .before .before .before in
     let a = s .args in
     let d = c .before .before .before .before .before .before .before .decide in (
-      c .before .before .before .apply-outcome .ensures ∙ stepped (now (a .site)) (now (a .state)) (s .pre .0) (s .pre .1) _ (d .result) (d .ensures),
+      c .before .before .before .apply-outcome .ensures ∙ stepped (now (a .site)) (now (a .state)) (s .pre .1 .0) (s .pre .1 .1) _ (d .result) (d .ensures),
       ap (λ (o : Outcome). o .answer) (d .ensures .outcome),
     )
 

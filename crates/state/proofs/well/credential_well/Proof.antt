@@ -9,7 +9,7 @@ unfolding credentialWell
 credential-well-spec =
     tie.close
     (tie.spec
-    (λ c κs. search needs) (λ c κs. search needs) (λ c κs. search needs) (λ c κs. tt) (λ c κs. tt)
+    (λ c κs. search needs) (λ c κs. search needs) (λ c κs. search needs) (λ c κs. search needs) (λ c κs. search needs)
     (λ c.
     let t = c .before .before in
     rw (c .none-or-exists2 .ensures, c .before .none-or-exists .ensures, t .is-clear2 .ensures, t .before .is-clear .ensures, t .before .before .before .credential-state-of .ensures)))

@@ -10,7 +10,7 @@ point-well-spec =
     tie.close
     (tie.spec
     (λ c κs. search needs) (λ c κs. search needs) (λ c κs. search needs) (λ c κs. search needs) (λ c κs. search needs)
-    (λ c κs. tt) (λ c κs. tt)
+    (λ c κs. search needs) (λ c κs. tt)
     (λ c.
     let t = c .before .before .before in
     let p = t .before .before .before .before in
