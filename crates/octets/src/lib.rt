@@ -1,4 +1,4 @@
-// Numbers of 1, 2 and 4 bytes, big-endian, at an offset of a lent part; 32-byte groups of a slice; comparison of two runs of bytes.
+// Numbers of 1, 2, 4 and 8 bytes, big-endian, at an offset of a lent part; 32-byte groups of a slice; comparison of two runs of bytes.
 ghost use mathlib.Core.Path.{_≡_};
 ghost use mathlib.Core.List.{[]};
 ghost use Prim.Native.Nat.{_+_, _/_, _≤_, _<_};
@@ -24,6 +24,13 @@ pub fn get_u32(part: &[u8], at: usize) -> u32
     ensures { λ r. ⌜ r ≡ field at 4 (now (part .entry)) ⌝ }
 {
     (get_u16(part, at) as u32) * 65536 + (get_u16(part, at + 2) as u32)
+}
+
+pub fn get_u64(part: &[u8], at: usize) -> u64
+    requires { ⌜ at + 8 ≤ length (now part) ⌝ }
+    ensures { λ r. ⌜ r ≡ field at 8 (now (part .entry)) ⌝ }
+{
+    (get_u32(part, at) as u64) * 4294967296 + (get_u32(part, at + 4) as u64)
 }
 
 pub fn put_u8(part: &mut [u8], at: usize, value: u8)

@@ -37,10 +37,10 @@ use Rattle.view.specs.declared.SiteView.{SiteView}
 use Rattle.view.proofs.Meets.{spelled, ends, only}
 use Rattle.view.proofs.View.{Fits, low, Bytes, holds}
 use Rattle.view.proofs.SiteView.Laws as T′
-use Rattle.site.proofs.lookup.record_count as count
-use Rattle.site.proofs.lookup.record_count.Symbol as count-def
-use Rattle.site.proofs.lookup.record_count.Symbol.{name as #site·lookup·record-count}
-use Rattle.site.proofs.lookup.record_count.Met as count-thm
+use Rattle.index.proofs.record_count as count
+use Rattle.index.proofs.record_count.Symbol as count-def
+use Rattle.index.proofs.record_count.Symbol.{name as #index·record-count}
+use Rattle.index.proofs.record_count.Met as count-thm
 use Rattle.view.proofs.view_of.Key.{name as #view·view-of}
 use Rattle.view.proofs.view_of as view-of
 use Rattle.view.proofs.view_of.Statement as stated
@@ -87,7 +87,7 @@ module _ {M : Type 1} (𝓤 : URA M) (H : Heap 𝓤) (A : Atoms 𝓤) (W : Given
       qed W ((‵ (flft κ q) ⊛ ‵ ftrue) ∷ ‵ (Bytes (named 0) κ s) ∷ []) ∵
       suffices ! _ (ends 𝓤 H A W view-of.signature (view-of.spec 𝓤 H A mem run) at (T′.lowered (made n)) (made n) (only 𝓤 H A (refl, e))) $ frame ! $ by ! (holds 𝓤 H A W (namedLft 1 0 tt (κ, tt)) s n fits)
 
-  walk : (𝓣 : Tables 𝓤 H) → Triple 𝓤 (𝓣 .C #site·lookup·record-count) (Count 𝓤 H A mem run) → Is (ShrSlice (named 0) κ u8) s (low s ∷ []) → ent 𝓤 (ViewOf 𝓤 H A mem run .pre at) (WpFn 𝓤 H (𝓣 .C) (𝓣 .Λ) code.function (low s ∷ []) (ViewOf 𝓤 H A mem run .post at))
+  walk : (𝓣 : Tables 𝓤 H) → Triple 𝓤 (𝓣 .C #index·record-count) (Count 𝓤 H A mem run) → Is (ShrSlice (named 0) κ u8) s (low s ∷ []) → ent 𝓤 (ViewOf 𝓤 H A mem run .pre at) (WpFn 𝓤 H (𝓣 .C) (𝓣 .Λ) code.function (low s ∷ []) (ViewOf 𝓤 H A mem run .post at))
   walk 𝓣 known p =
       qed W (raw (ViewOf 𝓤 H A mem run .pre at) ∷ []) ∵ enter ! (𝓣 .C) (𝓣 .Λ) code.function (low s ∷ []) _ $
       alloc1 ! (λ l₀. alloc1 ! (λ l₁. alloc1 ! (λ l₂. alloc0 ! $ params1 ! $ pass1 ! (init ! 2 refl (shr-slice-lawful 𝓤 H A W (named 0) κ u8 .typed s (low s ∷ []) p .0)) $ pass0 ! $
@@ -102,7 +102,7 @@ module _ {M : Type 1} (𝓤 : URA M) (H : Heap 𝓤) (A : Atoms 𝓤) (W : Given
       returns ! (look ! 6 refl) $ forget ! 2 refl $ forget ! 4 refl $ forget ! 6 refl $ move ! (6 ∷ 7 ∷ []) $ free1 ! $ move ! (4 ∷ 5 ∷ []) $ free1 ! $ move ! (2 ∷ 3 ∷ []) $ free1 ! $ free0 ! $
       by ! (subst (λ (z : Val). ent 𝓤 (⋆ 𝓤 H A ((‵ (flft κ q) ⊛ ‵ ftrue) ∷ ‵ (Bytes (named 0) κ s) ∷ [])) (ViewOf 𝓤 H A mem run .post at (put z))) (sym (ap one (is .0))) (exits n (is .1) e)))))))))
 
-view-of-meets : {M : Type 1} (𝓤 : URA M) (H : Heap 𝓤) (A : Atoms 𝓤) → Given 𝓤 H A → (mem : Memory → SProp 𝓤) (run : Routine → Fun 𝓤) (𝓣 : Tables 𝓤 H) → Triple 𝓤 (𝓣 .C #site·lookup·record-count) (Count 𝓤 H A mem run)
+view-of-meets : {M : Type 1} (𝓤 : URA M) (H : Heap 𝓤) (A : Atoms 𝓤) → Given 𝓤 H A → (mem : Memory → SProp 𝓤) (run : Routine → Fun 𝓤) (𝓣 : Tables 𝓤 H) → Triple 𝓤 (𝓣 .C #index·record-count) (Count 𝓤 H A mem run)
     → Meets 𝓤 H A view-of.signature (WpFn 𝓤 H (𝓣 .C) (𝓣 .Λ) code.function) (view-of.spec 𝓤 H A mem run)
 view-of-meets 𝓤 H A W mem run 𝓣 known = spelled 𝓤 H A view-of.signature (view-of.spec 𝓤 H A mem run) (WpFn 𝓤 H (𝓣 .C) (𝓣 .Λ) code.function) (λ _. (slice-vals, tt)) (λ κs. (shr-slice-tells (named 0) (κs .0) u8, tt))
     (λ y are. walk 𝓤 H A W mem run (y .0 .0 .0) (y .0 .1 .0) (y .0 .3 .0) 𝓣 known (are .0))
@@ -113,4 +113,4 @@ view-of-spec 𝓤 H 𝓜 𝓖 𝓡 =
     entered 𝓤 H (tripleOf 𝓤 H (𝓖 .A) view-of.signature (view-of.spec 𝓤 H (𝓖 .A) (𝓜 .mem) (𝓡 .run)))
     (tables 𝓤 H 𝓜 𝓡 code.env .C) (tables 𝓤 H 𝓜 𝓡 code.env .Λ) #view·view-of code.function (code.unfolded 𝓤 H 𝓜 𝓡)
     (view-of-meets 𝓤 H (𝓖 .A) (givenOf 𝓤 H 𝓜 𝓖) (𝓜 .mem) (𝓡 .run) (tablesOf 𝓤 H 𝓜 (tables 𝓤 H 𝓜 𝓡 code.env))
-    (cited 𝓤 H (Count 𝓤 H (𝓖 .A) (𝓜 .mem) (𝓡 .run)) 𝓜 𝓡 code.env #site·lookup·record-count count-def.routine code.calls-site·lookup·record-count (count-thm.met 𝓤 H 𝓜 𝓖 𝓡)))
+    (cited 𝓤 H (Count 𝓤 H (𝓖 .A) (𝓜 .mem) (𝓡 .run)) 𝓜 𝓡 code.env #index·record-count count-def.routine code.calls-index·record-count (count-thm.met 𝓤 H 𝓜 𝓖 𝓡)))

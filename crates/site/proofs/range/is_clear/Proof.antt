@@ -1,48 +1,39 @@
 -- What is left decides: what is left is clear where the whole is.
-use Prim.Native.Nat.{_+_, _-_, _<_}
-use mathlib.Core.Path.{_≡_, sym, _∙_}
+use Prim.Native.Nat.{_+_}
+use mathlib.Core.Path.{_≡_, refl, sym, _∙_}
 use native.Mathlib.Omega.{arith}
-use native.Mathlib.Nat.{add-sub-cancel-left}
 use borrow.Author.Needs.{needs}
 use borrow.Author.Tests.{eq-eqb, ne-eqb}
 use denote.Ref.{now}
 use Rattle.model.specs.Accept.{clear}
-use Rattle.site.proofs.Clear.{clear-turn, clear-end}
+use Rattle.site.proofs.Clear.{clear-cut, clear-field}
 use Rattle.site.proofs.range.is_clear.Statement.{statement}
 use Rattle.site.proofs.range.is_clear.Tie as tie
 
 abbrev Inv-loop : tie.InvT-loop
-Inv-loop part at n end i₀ i = (end ≡ at + n) × (clear i (end - i) part ≡ clear at n part)
+Inv-loop part at n i₀ left₀ i left = (i + left ≡ at + n) × (clear i left part ≡ clear at n part)
 
 abbrev μ-loop : tie.MeasureT-loop
-μ-loop part at n end i₀ i = end - i
-
-loop-holds : tie.Need-loop-holds Inv-loop μ-loop
-loop-holds c = (search needs, rw (add-sub-cancel-left (c .args .at) (c .args .n)))
+μ-loop part at n i₀ left₀ i left = left
 
 returns : tie.Need-returns Inv-loop μ-loop
 returns c =
     let l = c .before .before .before in
-    let a = l .before .args in
-    let e = a .at + a .n in
-    let h : l .loop .i < e = omega arith in
-    rw (← l .loop .inv .1, clear-turn (l .loop .i) e (now (a .part)) h (omega arith), ne-eqb _ _ (c .if1 .taken))
+    let a = l .before .before .args in
+    let t = clear-cut 8 (l .loop .left) (l .loop .i) (now (a .part)) (omega arith) (omega arith) in
+    let w = clear-field 8 (l .loop .i) (now (a .part)) (omega arith) in
+    rw (← l .loop .inv .1, t, w, ← c .before .get-u64 .ensures, ne-eqb _ _ (c .if1 .taken))
 
 loop-again : tie.Need-loop-again Inv-loop μ-loop
 loop-again c =
     let l = c .before .before .before in
-    let a = l .before .args in
-    let e = a .at + a .n in
-    let h : l .loop .i < e = omega arith in
-    let t = clear-turn (l .loop .i) e (now (a .part)) h (omega arith) in
-    (l .loop .inv .0, sym (rw (eq-eqb _ _ (c .if1 .left)) at t) ∙ l .loop .inv .1)
+    let a = l .before .before .args in
+    let t = clear-cut 8 (l .loop .left) (l .loop .i) (now (a .part)) (omega arith) (omega arith) in
+    let w = clear-field 8 (l .loop .i) (now (a .part)) (omega arith) in
+    (omega arith, sym (rw (w, ← c .before .get-u64 .ensures, eq-eqb _ _ (c .if1 .left)) at t) ∙ l .loop .inv .1)
 
 returns-2 : tie.Need-returns-2 Inv-loop μ-loop
-returns-2 c =
-    let l = c .before in
-    let a = l .before .args in
-    let e = a .at + a .n in
-    sym (clear-end (l .loop .i) e (now (a .part)) (omega arith)) ∙ l .loop .inv .1
+returns-2 c = c .is-rest-clear .ensures ∙ c .before .before .loop .inv .1
 
 pub is-clear-spec : {M : Type 1} → statement M
 is-clear-spec =
@@ -50,10 +41,10 @@ is-clear-spec =
     (tie.spec
     Inv-loop
     μ-loop
-    (λ c. search needs)
-    loop-holds
-    (λ c. search needs)
+    (λ c. (refl, refl))
+    (λ c κs. search needs)
     returns
     (λ c. search needs) (λ c. search needs)
     loop-again
+    (λ c κs. search needs)
     returns-2)
