@@ -39,13 +39,6 @@ pub fn find_object(site: &[u8], object: Object) -> &[u8]
     }
 }
 
-// The first factor that fits what is presented, else the empty part.
-pub fn find_factor(site: &[u8], factor: Presented) -> &[u8]
-    ensures { λ r. ⌜ now r ≡ findIn (fits factor) (records (now (site .entry))) ⌝ }
-{
-    site::lookup::find_factor(site, factor)
-}
-
 pub fn view_of<'a>(site: &'a [u8]) -> SiteView<'a>
     ensures { λ v. ⌜ (v .bytes ≡ site .entry) × (v .records ≡ length (records (now (site .entry)))) ⌝ }
 {
@@ -67,10 +60,11 @@ pub fn find_in<'a>(view: SiteView<'a>, object: Object) -> &'a [u8]
     find_object(view.bytes, object)
 }
 
+// The first factor that fits what is presented, else the empty part.
 pub fn find_factor_in<'a>(view: SiteView<'a>, factor: Presented) -> &'a [u8]
     ensures { λ r. ⌜ now r ≡ findIn (fits factor) (records (now (view .entry .bytes))) ⌝ }
 {
-    find_factor(view.bytes, factor)
+    site::lookup::find_factor(view.bytes, factor)
 }
 
 pub fn fresh_in<'a>(view: SiteView<'a>, state: &mut [u8]) -> Returned

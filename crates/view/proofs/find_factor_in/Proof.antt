@@ -5,12 +5,12 @@ use denote.Struct.Laws as LL
 use denote.Triple.Spec.{tripleOf}
 use denote.Triple.Table.{entered, cited}
 use Rattle.view.proofs.View.{found}
-use Rattle.view.proofs.Presented as P
-use Rattle.view.proofs.Presented.Laws as P′
-use Rattle.view.proofs.find_factor as callee
-use Rattle.view.proofs.find_factor.Symbol as callee-def
-use Rattle.view.proofs.find_factor.Symbol.{name as #view·find-factor}
-use Rattle.view.proofs.find_factor.Met as callee-thm
+use Rattle.site.proofs.Presented as P
+use Rattle.site.proofs.Presented.Laws as P′
+use Rattle.site.proofs.lookup.find_factor as callee
+use Rattle.site.proofs.lookup.find_factor.Symbol as callee-def
+use Rattle.site.proofs.lookup.find_factor.Symbol.{name as #site·lookup·find-factor}
+use Rattle.site.proofs.lookup.find_factor.Met as callee-thm
 use Rattle.view.proofs.find_factor_in.Key.{name as #view·find-factor-in}
 use Rattle.view.proofs.find_factor_in as find-factor-in
 use Rattle.view.proofs.find_factor_in.Statement as stated
@@ -25,5 +25,5 @@ find-factor-in-spec 𝓤 H 𝓜 𝓖 𝓡 =
     (callee.spec 𝓤 H (𝓖 .A) (𝓜 .mem) (𝓡 .run)) (λ κs a. find-factor-in.spec 𝓤 H (𝓖 .A) (𝓜 .mem) (𝓡 .run) κs a .ensures)
     -- what the callee ensures of the bytes is what `find_factor_in` ensures of the view
     (λ κs a g x. id⊢ 𝓤 _)
-    (tablesOf 𝓤 H 𝓜 (tables 𝓤 H 𝓜 𝓡 code.env)) #view·find-factor
-    (cited 𝓤 H (tripleOf 𝓤 H (𝓖 .A) callee.signature (callee.spec 𝓤 H (𝓖 .A) (𝓜 .mem) (𝓡 .run))) 𝓜 𝓡 code.env #view·find-factor callee-def.routine code.calls-view·find-factor (callee-thm.met 𝓤 H 𝓜 𝓖 𝓡)))
+    (tablesOf 𝓤 H 𝓜 (tables 𝓤 H 𝓜 𝓡 code.env)) #site·lookup·find-factor
+    (cited 𝓤 H (tripleOf 𝓤 H (𝓖 .A) callee.signature (callee.spec 𝓤 H (𝓖 .A) (𝓜 .mem) (𝓡 .run))) 𝓜 𝓡 code.env #site·lookup·find-factor callee-def.routine code.calls-site·lookup·find-factor (callee-thm.met 𝓤 H 𝓜 𝓖 𝓡)))
