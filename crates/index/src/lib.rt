@@ -11,6 +11,7 @@ ghost use Rattle.index.specs.Index as Index;
 ghost use Rattle.index.specs.Index.{most-records, buckets, index-size, objectBucket, ruleBucket, factorBucket, bucketOf, IndexedFrom};
 use model::numbers::ACCESS_RULE;
 use model::numbers::AUTHENTICATION_FACTOR;
+use model::numbers::MODULUS;
 use model::numbers::ROLE_IDENTIFYING;
 
 // The most records of a site, whose links come first; the buckets, whose heads follow.
@@ -71,28 +72,26 @@ pub fn rule_bucket(rights: u32, kind: u8, location: u32) -> usize
     spread(rights, location, kind as u32, ACCESS_RULE as u16)
 }
 
-// The bucket of the factors of a format, a value in two words and, where they confirm, a credential.
-fn factor_bucket(format: u8, high: u32, low: u32, owner: u32) -> usize
-    ensures { λ r. ⌜ (r ≡ factorBucket format high low owner) × (r < buckets) ⌝ }
+// The bucket of the factors of a format, of the value at an offset and, where they confirm, of a credential.
+fn factor_bucket(format: u8, part: &[u8], at: usize, owner: u32) -> usize
+    requires { ⌜ at + 8 ≤ length (now part) ⌝ }
+    ensures { λ r. ⌜ (r ≡ factorBucket format (field at 4 (now (part .entry))) (field (at + 4) 4 (now (part .entry))) owner) × (r < buckets) ⌝ }
 {
+    let words = octets::get_u64(part, at);
+    let turn = (format as u16) + (AUTHENTICATION_FACTOR as u16);
     spread(
-        low,
-        high,
+        (words % MODULUS) as u32,
+        (words / MODULUS) as u32,
         owner,
-        (format as u16) + (AUTHENTICATION_FACTOR as u16),
+        turn,
     )
 }
 
-// The same of a value in bytes.
+// The same of a value by itself.
 pub fn value_bucket(format: u8, value: [u8; 8], owner: u32) -> usize
     ensures { λ r. ⌜ (r ≡ factorBucket format (field 0 4 value) (field 4 4 value) owner) × (r < buckets) ⌝ }
 {
-    factor_bucket(
-        format,
-        octets::get_u32(&value, 0),
-        octets::get_u32(&value, 4),
-        owner,
-    )
+    factor_bucket(format, &value, 0, owner)
 }
 
 fn owner_of(part: &[u8]) -> u32
@@ -122,12 +121,7 @@ fn bucket_of(part: &[u8]) -> usize
 {
     let kind = octets::get_u8(part, 0);
     if kind == AUTHENTICATION_FACTOR {
-        return factor_bucket(
-            octets::get_u8(part, 8),
-            octets::get_u32(part, 16),
-            octets::get_u32(part, 20),
-            owner_of(part),
-        );
+        return factor_bucket(octets::get_u8(part, 8), part, 16, owner_of(part));
     }
     if kind == ACCESS_RULE {
         return bucket_of_rule(part);

@@ -8,16 +8,8 @@ use Rattle.index.proofs.bucket_of.Tie as tie
 returns : tie.Need-returns
 unfolding bucketOf
 returns c =
-    let p = c .before .before .before in
-    let d = p .before in (
-      rw (
-        ← d .before .before .get-u8 .ensures,
-        eq-eqb _ _ (d .before .if1 .taken),
-        ← d .get-u82 .ensures,
-        ← p .get-u32 .ensures,
-        ← c .before .before .get-u322 .ensures,
-        ← c .before .owner-of .ensures,
-      ) (c .factor-bucket .ensures .0),
+    let d = c .before .before in (
+      rw (← d .before .before .get-u8 .ensures, eq-eqb _ _ (d .before .if1 .taken), ← d .get-u82 .ensures, ← c .before .owner-of .ensures) (c .factor-bucket .ensures .0),
       c .factor-bucket .ensures .1,
     )
 
@@ -34,7 +26,7 @@ unfolding bucketOf
 returns-3 c =
     let e = c .before .before in
     let d = e .before .before in (
-      rw (← d .get-u8 .ensures, ne-eqb _ _ (e .before .if1 .left), ne-eqb _ _ (e .if2 .left), ← c .before .get-u323 .ensures) (c .object-bucket .ensures .0),
+      rw (← d .get-u8 .ensures, ne-eqb _ _ (e .before .if1 .left), ne-eqb _ _ (e .if2 .left), ← c .before .get-u32 .ensures) (c .object-bucket .ensures .0),
       c .object-bucket .ensures .1,
     )
 
@@ -42,7 +34,7 @@ pub bucket-of-spec : {M : Type 1} → statement M
 bucket-of-spec =
     tie.close
     (tie.spec
-    (λ c κs. search needs) (λ c κs. search needs) (λ c κs. search needs) (λ c κs. search needs) (λ c κs. search needs) (λ c κs. search needs)
+    (λ c κs. search needs) (λ c κs. search needs) (λ c κs. search needs) (λ c κs. search needs)
     returns
     (λ c κs. search needs)
     returns-2
