@@ -70,8 +70,8 @@ fn count_to(site: &[u8], index: &[u16], state: &[u8], place: Place) -> u32
     requires { ⌜ Indexed (now site) (now index) ⌝ }
     ensures { λ r. ⌜ r ≡ countTo place (now (site .entry)) (now (state .entry)) ⌝ }
 {
-    let point = records::point_of(part_at(site, place));
-    let to = seek_place(site, index, ACCESS_ZONE, point.zone_to);
+    let zone_to = records::zone_to_of(part_at(site, place));
+    let to = seek_place(site, index, ACCESS_ZONE, zone_to);
     records::count_of(part_at(state, to))
 }
 

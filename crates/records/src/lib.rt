@@ -14,7 +14,7 @@ ghost use mathlib.Core.Bool.{false};
 ghost use Prim.Native.Nat.{_+_, _≤_, _<_};
 ghost use lib.ListN.{length, take, drop};
 ghost use Rattle.model.specs.Words.{bit, bitOf, missing, zeros};
-ghost use Rattle.model.specs.Site.{flag, instance, zoneOf, pointOf, credentialOf, factorDisable};
+ghost use Rattle.model.specs.Site.{flag, instance, reference, zoneOf, pointOf, credentialOf, factorDisable};
 ghost use Rattle.model.specs.State.{count, zoneBytes, pointStateOf, pointBytes, credentialStateOf, credentialBytes};
 ghost use Rattle.model.specs.Entry.{entryOf, answerBytes};
 
@@ -75,6 +75,17 @@ pub fn zone_of(part: &[u8]) -> Zone
         lower_limit: octets::get_u32(part, 12),
         passback_timeout: octets::get_u32(part, 16),
     }
+}
+
+// A point's Zone_To.
+pub fn zone_to_of(part: &[u8]) -> u32
+    requires { ⌜ (missing (now part) ≡ false → length (now part) ≡ 32) ⌝ }
+    ensures { λ r. ⌜ r ≡ reference 8 (now (part .entry)) ⌝ }
+{
+    if part.len() < 32 {
+        return NONE;
+    }
+    octets::get_u32(part, 8)
 }
 
 pub fn point_of(part: &[u8]) -> Point

@@ -35,14 +35,13 @@ fn point_well(site: &[u8], index: &[u16], s: &[u8], t: &[u8]) -> bool
     requires { ⌜ (length (now s) ≡ 32) × (length (now t) ≡ 32) ⌝ }
     ensures { λ r. ⌜ r ≡ pointWell (records (now (site .entry))) (now (s .entry)) (now (t .entry)) ⌝ }
 {
-    let point = records::point_of(s);
     let p = records::point_state_of(t);
     (octets::get_u8(t, 5) <= 1)
         & is_clear(t, 6, 2)
         & is_clear(t, 24, 8)
         & none_or_exists(site, index, ACCESS_CREDENTIAL, p.waiting_credential)
         & (!p.locked | (p.waiting_credential == NONE))
-        & failures_well(p.failures, point.most_failures)
+        & failures_well(p.failures, octets::get_u8(s, 17))
 }
 
 fn credential_well(site: &[u8], index: &[u16], t: &[u8]) -> bool
