@@ -3,33 +3,29 @@
 
 use reference::bytes::{get32, put32};
 use reference::layout::{credential, factor, point, record, rule};
-use reference::numbers::{
-    factor_role, kind, location_kind, rule_flag, NONE, RECORD_LENGTH, VALUE_LENGTH,
-};
+use reference::numbers::{factor_role, kind, rule_flag, NONE, RECORD_LENGTH, VALUE_LENGTH};
 use reference::site::{instance_of, kind_of, records};
 use std::collections::HashMap;
 
 /// The numbers by which the index chooses a bucket.
 pub const BUCKETS: u64 = 1_024;
-/// What each of these products is divided by, so that its upper bits choose.
+/// What the sum of these products is divided by, so that its upper bits choose.
 pub const DIVISOR: u64 = 1_048_576;
 /// Of an instance, and of the last four bytes of a value.
 pub const MULTIPLIER: u64 = 663_608_941;
 /// Of the first four bytes of a value.
-pub const HIGH_MULTIPLIER: u64 = 331_804_471;
+pub const HIGH_MULTIPLIER: u64 = 444_758_427;
 /// Of a confirming factor's credential.
-pub const OWNER_MULTIPLIER: u64 = 444_758_427;
-/// From one kind to the next.
-pub const KIND_STEP: u64 = 204;
-/// From one format to the next.
-pub const FORMAT_STEP: u64 = 211;
+pub const OWNER_MULTIPLIER: u64 = 786_033_565;
+/// From one kind or format to the next; the formats follow the kinds.
+pub const STEP: u64 = 204;
 
 /// The bucket of all records here.
 const BUCKET: u64 = 0;
 
-/// The bucket of a zone, point, rule or credential.
+/// The bucket of a zone, a point, a credential or a rule for everywhere.
 fn bucket(kind: u8, instance: u32) -> u64 {
-    (u64::from(instance) * MULTIPLIER / DIVISOR + u64::from(kind) * KIND_STEP) % BUCKETS
+    (u64::from(instance) * MULTIPLIER / DIVISOR + u64::from(kind) * STEP) % BUCKETS
 }
 
 /// The bucket of a factor; an identifying one has owner 0.
@@ -37,10 +33,11 @@ fn factor_bucket(owner: u32, format: u8, high: u32, low: u32) -> u64 {
     let sum = u64::from(high) * HIGH_MULTIPLIER
         + u64::from(low) * MULTIPLIER
         + u64::from(owner) * OWNER_MULTIPLIER;
-    (sum / DIVISOR + u64::from(format) * FORMAT_STEP) % BUCKETS
+    (sum / DIVISOR + (u64::from(kind::FACTOR) + u64::from(format)) * STEP) % BUCKETS
 }
 
-/// Whether a record falls into the one bucket.
+/// Whether a record falls into the one bucket. A rule's bucket is by its location too, so that of
+/// rules only those for everywhere are known to.
 pub fn collides(record: &[u8]) -> bool {
     let bucket = match kind_of(record) {
         kind::FACTOR => factor_bucket(
@@ -49,6 +46,7 @@ pub fn collides(record: &[u8]) -> bool {
             get32(record, factor::VALUE),
             get32(record, factor::VALUE + 4),
         ),
+        kind::RULE if record[record::FLAGS] & rule_flag::EVERYWHERE == 0 => return false,
         kind => bucket(kind, instance_of(record)),
     };
     bucket == BUCKET
@@ -89,7 +87,7 @@ pub fn unknown_instance(site: &[u8], kind: u8) -> u32 {
 }
 
 /// An accepted site with other instances and values, in the same order and naming each other as
-/// before, so that all its records fall into one bucket.
+/// before, and with its rules for everywhere, so that all its records fall into one bucket.
 pub fn collided(site: &[u8]) -> Vec<u8> {
     let mut names = Names::default();
     let mut site = site.to_vec();
@@ -114,12 +112,10 @@ impl Names {
                 self.put(record, point::ZONE_TO, kind::ZONE);
                 self.put(record, point::ZONE_FROM, kind::ZONE);
             }
-            kind::RULE if record[record::FLAGS] & rule_flag::EVERYWHERE == 0 => {
-                let location = match record[rule::LOCATION_KIND] {
-                    location_kind::ZONE => kind::ZONE,
-                    _ => kind::POINT,
-                };
-                self.put(record, rule::LOCATION, location);
+            kind::RULE => {
+                record[record::FLAGS] |= rule_flag::EVERYWHERE;
+                record[rule::LOCATION_KIND] = 0;
+                put32(record, rule::LOCATION, 0);
             }
             kind::CREDENTIAL => {
                 self.put(record, credential::FIRST_RIGHTS, kind::RULE);

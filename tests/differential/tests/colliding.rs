@@ -1,17 +1,17 @@
 //! Sites whose records all fall into one bucket of the library's index, through both engines.
 
 use differential::colliding::{
-    collided, collides, unknown_instance, unknown_value, BUCKETS, DIVISOR, FORMAT_STEP,
-    HIGH_MULTIPLIER, KIND_STEP, MULTIPLIER, OWNER_MULTIPLIER,
+    collided, collides, unknown_instance, unknown_value, BUCKETS, DIVISOR, HIGH_MULTIPLIER,
+    MULTIPLIER, OWNER_MULTIPLIER, STEP,
 };
 use differential::{compare, settings};
 use reference::bytes::put32;
 use reference::generate::clock::base_time;
 use reference::generate::{journal, large_site, site, state, Case, Random};
-use reference::layout::{credential_state, entry, factor, point, point_state, record, rule};
+use reference::layout::{credential_state, entry, factor, point, point_state, record};
 use reference::numbers::{
-    factor_role, kind, location_kind, operation, refusal, rule_flag, ANSWER_LENGTH, ENTRY_LENGTH,
-    MOST_SITE_BYTES, RECORD_LENGTH, VALUE_LENGTH,
+    factor_role, kind, operation, refusal, ANSWER_LENGTH, ENTRY_LENGTH, MOST_SITE_BYTES,
+    RECORD_LENGTH, VALUE_LENGTH,
 };
 use reference::occurrences::Occurrences;
 use reference::site::{instance_of, kind_of, records};
@@ -154,17 +154,10 @@ fn under_another(site: &[u8], record: &[u8]) -> Vec<u8> {
     factor
 }
 
-/// The fields of a site record that name objects, with the kind of the object.
+/// The fields of a colliding site's record that name objects, with the kind of the object.
 fn named_in(record: &[u8]) -> Vec<(usize, u8)> {
     match kind_of(record) {
         kind::POINT => vec![(point::ZONE_TO, kind::ZONE), (point::ZONE_FROM, kind::ZONE)],
-        kind::RULE if record[record::FLAGS] & rule_flag::EVERYWHERE == 0 => {
-            let location = match record[rule::LOCATION_KIND] {
-                location_kind::ZONE => kind::ZONE,
-                _ => kind::POINT,
-            };
-            vec![(rule::LOCATION, location)]
-        }
         kind::FACTOR => vec![(record::INSTANCE, kind::CREDENTIAL)],
         _ => Vec::new(),
     }
@@ -242,8 +235,7 @@ fn the_numbers_are_those_of_the_index() {
         MULTIPLIER,
         HIGH_MULTIPLIER,
         OWNER_MULTIPLIER,
-        KIND_STEP,
-        FORMAT_STEP,
+        STEP,
     ]);
     let others = Vec::from_iter(numbers.difference(&values));
     assert!(others.is_empty(), "no constants of the index: {others:?}");
