@@ -19,6 +19,10 @@ buckets = 1024
 abbrev pub index-size : ℕ
 index-size = 3024
 
+-- How many links of a chain are followed at most.
+abbrev pub long-chain : ℕ
+long-chain = 16
+
 -- Three numbers spread over the buckets, and turned on by a fourth.
 unfoldable pub spread : ℕ → ℕ → ℕ → ℕ → ℕ
 spread a b c turn = ((a * 663608941 + b * 444758427 + c * 786033565) / 1048576 + turn * 204) % buckets

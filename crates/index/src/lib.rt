@@ -24,6 +24,9 @@ pub const INDEX_SIZE: usize = 3024;
 // What an index holds before it is built. Its two bytes differ: a fill with equal bytes becomes a call of memset, and so of another library.
 pub const UNBUILT: u16 = 2000;
 
+// Of a chain longer than this the rest is not followed: each link waits for the one before, so that in a site made to fall into one bucket a scan is quicker.
+pub const LONG_CHAIN: usize = 16;
+
 // What a bucket is computed with: multiples of 2^30 by numbers far from all fractions, so that neither runs nor steps of instances and values meet.
 const SPREAD_FIRST: usize = 663608941;
 

@@ -8,8 +8,10 @@ ghost use Rattle.site.specs.Place.{placeOf};
 ghost use Rattle.site.specs.Factor.{fits, presentedBucket};
 use super::Place;
 use super::Presented;
+use super::lookup;
 use super::lookup::is_at;
 use super::lookup::is_fitting;
+use index::LONG_CHAIN;
 use index::record_at;
 use index::record_count;
 use model::numbers::NONE;
@@ -21,12 +23,17 @@ pub fn place_of(site: &[u8], index: &[u16], kind: u8, instance: u32) -> Place
     ensures { λ r. ⌜ r ≡ placeOf kind instance (now (site .entry)) ⌝ }
 {
     let n = record_count(site);
+    let mut links = 0;
     let mut i = index::first_of(index, index::object_bucket(kind, instance));
     while i < n {
+        if links == LONG_CHAIN {
+            return lookup::place_of(site, kind, instance);
+        }
         if is_at(record_at(site, i), kind, instance) {
             return Place::At(i);
         }
         i = index::next_of(index, i);
+        links += 1;
     }
     Place::Nothing
 }
@@ -71,13 +78,18 @@ pub fn find_factor<'a>(site: &'a [u8], index: &[u16], p: Presented) -> &'a [u8]
     ensures { λ r. ⌜ now r ≡ findIn (fits p) (records (now (site .entry))) ⌝ }
 {
     let n = record_count(site);
+    let mut links = 0;
     let mut i = index::first_of(index, presented_bucket(p));
     while i < n {
+        if links == LONG_CHAIN {
+            return lookup::find_factor(site, p);
+        }
         let part = record_at(site, i);
         if is_fitting(part, p) {
             return part;
         }
         i = index::next_of(index, i);
+        links += 1;
     }
     &site[..0]
 }

@@ -1,12 +1,12 @@
--- Along the chain of the bucket: the place in what is left is the place in the whole.
-use Prim.Native.Nat.{_<_, _-_}
+-- Along the chain of the bucket: the place in what is left is the place in the whole. Of a long chain the scan says it.
+use Prim.Native.Nat.{_≤_, _<_, _-_}
 use mathlib.Core.Path.{_≡_, sym, _∙_}
 use native.Mathlib.Omega.{arith}
 use borrow.Author.Needs.{needs}
 use lib.ListN.{length}
 use denote.Ref.{now}
 use Rattle.model.specs.Site.{records, isAt}
-use Rattle.index.specs.Index.{objectBucket}
+use Rattle.index.specs.Index.{objectBucket, long-chain}
 use Rattle.index.proofs.Walks.{left-turn, left-end, Walk, walk-from, walk-past, link-after}
 use Rattle.index.proofs.Buckets.{object-bucket}
 use Rattle.site.specs.Place.{placeFrom, placeOf}
@@ -15,12 +15,12 @@ use Rattle.site.proofs.indexed.place_of.Statement.{statement}
 use Rattle.site.proofs.indexed.place_of.Tie as tie
 
 abbrev Inv-loop : tie.InvT-loop
-Inv-loop site index kind instance n i₀ i =
-    (n ≡ length (records site))
+Inv-loop site index kind instance n links₀ i₀ links i =
+    (n ≡ length (records site)) × (links ≤ long-chain)
     × Walk (placeFrom (isAt kind instance)) (objectBucket kind instance) 0 (placeOf kind instance site) (records site) i
 
 abbrev μ-loop : tie.MeasureT-loop
-μ-loop site index kind instance n i₀ i = n - i
+μ-loop site index kind instance n links₀ i₀ links i = n - i
 
 loop-holds : tie.Need-loop-holds Inv-loop μ-loop
 unfolding placeOf
@@ -30,49 +30,51 @@ loop-holds c =
     let q = isAt (a .kind) (a .instance) in
     let b = c .before .object-bucket .ensures in (
       c .before .before .record-count .ensures,
+      omega arith,
       walk-from (placeFrom q) q (place-passes q) (records (now (a .site))) (objectBucket (a .kind) (a .instance))
           (object-bucket (a .kind) (a .instance) (s .pre .1)) 0 (now (a .index)) (s .pre .0) (c .first-of .result) (rw (b .0) at (b .1)) (rw (b .0) at (c .first-of .ensures)),
     )
 
-returns : tie.Need-returns Inv-loop μ-loop
+returns-2 : tie.Need-returns-2 Inv-loop μ-loop
 unfolding placeFrom
-returns c =
-    let l = c .before .before .before .before in
+returns-2 c =
+    let l = c .before .before .before .before .before in
     let ss = records (now (l .before .before .before .before .before .before .args .site)) in
     let h : l .loop .i < length ss = omega arith in
-    rw (← l .loop .inv .1 .left, left-turn ss (l .loop .i) h, ← c .before .before .record-at .ensures .0, ← c .before .is-at .ensures, c .if1 .taken)
+    rw (← l .loop .inv .2 .left, left-turn ss (l .loop .i) h, ← c .before .before .record-at .ensures .0, ← c .before .is-at .ensures, c .if2 .taken)
 
 next-of-requires : tie.Need-next-of-requires Inv-loop μ-loop
 next-of-requires c κs =
-    let x = c .before .before .before .before .before .before .before .before .before .before .pre .0 in
+    let x = c .before .before .before .before .before .before .before .before .before .before .before .pre .0 in
     (x .size, omega (arith, x .few))
 
 loop-less : tie.Need-loop-less Inv-loop μ-loop
 loop-less c =
-    let l = c .before .before .before .before .before in
+    let l = c .before .before .before .before .before .before in
     let s = l .before .before .before .before .before .before in
     let h : l .loop .i < length (records (now (s .args .site))) = omega arith in
     omega (arith, c .next-of .ensures, link-after 0 (records (now (s .args .site))) (now (s .args .index)) (s .pre .0) (l .loop .i) (omega arith) h)
 
 loop-again : tie.Need-loop-again Inv-loop μ-loop
 loop-again c =
-    let l = c .before .before .before .before .before in
+    let l = c .before .before .before .before .before .before in
     let s = l .before .before .before .before .before .before in
     let a = s .args in
     let q = isAt (a .kind) (a .instance) in
     let ss = records (now (a .site)) in
     let h : l .loop .i < length ss = omega arith in
-    let n = rw (c .before .before .is-at .ensures, c .before .before .before .record-at .ensures .0) at (c .before .if1 .left) in (
+    let n = rw (c .before .before .is-at .ensures, c .before .before .before .record-at .ensures .0) at (c .before .if2 .left) in (
       l .loop .inv .0,
+      omega arith,
       walk-past (placeFrom q) q (place-passes q) ss (objectBucket (a .kind) (a .instance)) (object-bucket (a .kind) (a .instance) (s .pre .1))
-          0 (now (a .index)) (s .pre .0) (l .loop .i) (c .next-of .result) h (l .loop .inv .1) n (c .next-of .ensures),
+          0 (now (a .index)) (s .pre .0) (l .loop .i) (c .next-of .result) h (l .loop .inv .2) n (c .next-of .ensures),
     )
 
-returns-2 : tie.Need-returns-2 Inv-loop μ-loop
+returns-3 : tie.Need-returns-3 Inv-loop μ-loop
 unfolding placeFrom
-returns-2 c =
+returns-3 c =
     let l = c .before in
-    rw (← l .loop .inv .1 .left, left-end (records (now (l .before .before .before .before .before .before .args .site))) (l .loop .i) (omega arith))
+    rw (← l .loop .inv .2 .left, left-end (records (now (l .before .before .before .before .before .before .args .site))) (l .loop .i) (omega arith))
 
 pub place-of-spec : {M : Type 1} → statement M
 place-of-spec =
@@ -83,10 +85,13 @@ place-of-spec =
     (λ c κs. tt) (λ c κs. tt)
     (λ c κs. (c .before .before .before .before .pre .0 .size, c .object-bucket .ensures .1))
     loop-holds
+    (λ c κs. tt)
+    (λ c. c .place-of .ensures)
     (λ c κs. search needs)
     (λ c κs. c .record-at .ensures .1)
-    returns
+    returns-2
     next-of-requires
+    (λ c. search needs)
     loop-less
     loop-again
-    returns-2)
+    returns-3)
