@@ -13,7 +13,7 @@ use Rattle.model.specs.declared.Verdict.{Verdict}
 use Rattle.model.proofs.Laws.{and-left, and-right, any-keep}
 use Rattle.index.specs.Index.{ruleBucket, bucketOfRule, bucketOf}
 use Rattle.rules.specs.declared.Asked.{Asked}
-use Rattle.rules.specs.Walk.{findings, both, inRights}
+use Rattle.rules.specs.Walk.{findings, both, inSome, ruleBuckets}
 
 -- Of the records that either of two tests keeps, some passes a third: one that the first keeps, or one that the second keeps.
 any-either : (t p q : List ℕ → Bool) (ss : List (List ℕ)) → any t (keep (λ s. p s || q s) ss) ≡ any t (keep p ss) || any t (keep q ss)
@@ -54,17 +54,11 @@ module _ (rights : ℕ) (s : List ℕ) (r : ofRights rights s ≡ true) where
       let i = and-right (eqb (kind s) access-rule) (eqb (instance s) rights) of-rights in
       rw (eqb-true (kind s) access-rule k, eqb-true (instance s) rights i)
 
-  place-bucket : (k i : ℕ) → eqb (locationKind s) k && eqb (location s) i ≡ true
-      → eqb (ruleBucket rights (locationKind s) (location s)) (ruleBucket rights k i) ≡ true
-  place-bucket k i e =
-      let p = and-left (eqb (locationKind s) k) (eqb (location s) i) e in
-      let q = and-right (eqb (locationKind s) k) (eqb (location s) i) e in
-      rw (eqb-true (locationKind s) k p, eqb-true (location s) i q) (eq-eqb (ruleBucket rights k i) (ruleBucket rights k i) refl)
-
-  -- A rule of a rights number that fits in location is in one of that number's buckets.
-  in-rights : (a : Asked) → located a s ≡ true → inRights rights a s ≡ true
-  unfolding inRights locationFits
-  in-rights a l = rw rule-bucket (go (everywhere s) at-point refl l)
+  -- A rule of a rights number that fits in location is in one of that number's buckets: what holds of each of the three holds of its own.
+  in-rights : (a : Asked) (Q : ℕ → Type 0) → located a s ≡ true
+      → Q (ruleBucket rights 0 0) → Q (ruleBucket rights access-point (a .point)) → Q (ruleBucket rights access-zone (a .to)) → Q (bucketOf s)
+  unfolding locationFits
+  in-rights a Q l x y z = rw rule-bucket (go (everywhere s) at-point refl l)
     where
       at-point : Bool
       at-point = eqb (locationKind s) access-point && eqb (location s) (a .point)
@@ -72,44 +66,50 @@ module _ (rights : ℕ) (s : List ℕ) (r : ofRights rights s ≡ true) where
       at-zone : Bool
       at-zone = eqb (locationKind s) access-zone && eqb (location s) (a .to)
 
-      bucket : Bool → ℕ
-      bucket e = if e then ruleBucket rights 0 0 else ruleBucket rights (locationKind s) (location s)
+      place : (k i : ℕ) → eqb (locationKind s) k && eqb (location s) i ≡ true → Q (ruleBucket rights k i)
+          → Q (ruleBucket rights (locationKind s) (location s))
+      place k i e q =
+          let f = and-left (eqb (locationKind s) k) (eqb (location s) i) e in
+          let g = and-right (eqb (locationKind s) k) (eqb (location s) i) e in
+          rw (eqb-true (locationKind s) k f, eqb-true (location s) i g) q
 
       go : (e p : Bool) → at-point ≡ p → e || p || at-zone && not (eqb (a .to) NONE) ≡ true
-          → eqb (bucket e) (ruleBucket rights 0 0) || eqb (bucket e) (ruleBucket rights access-point (a .point))
-          || eqb (bucket e) (ruleBucket rights access-zone (a .to)) ≡ true
-      go true p f h = rw (eq-eqb (ruleBucket rights 0 0) (ruleBucket rights 0 0) refl)
-      go false true f h = rw (place-bucket access-point (a .point) f) (simp or-true)
-      go false false f h = rw (place-bucket access-zone (a .to) (and-left at-zone (not (eqb (a .to) NONE)) h)) (simp or-true)
+          → Q (if e then ruleBucket rights 0 0 else ruleBucket rights (locationKind s) (location s))
+      go true p f h = x
+      go false true f h = place access-point (a .point) f y
+      go false false f h = place access-zone (a .to) (and-left at-zone (not (eqb (a .to) NONE)) h) z
 
--- A record of the six buckets, in which every rule is that fits in rights and location.
-abbrev walked : Asked → List ℕ → Bool
-walked a s = inRights (a .first) a s || inRights (a .second) a s
-
-walks-all : (a : Asked) (s : List ℕ) → rule a s ≡ true → located a s ≡ true → walked a s ≡ true
+-- Every rule that fits in rights and location is in one of the buckets of what is asked.
+walks-all : (a : Asked) (s : List ℕ) → rule a s ≡ true → located a s ≡ true → inSome (ruleBuckets a) s ≡ true
 unfolding enabledRule
 walks-all a s e l = go (ofRights (a .first) s) refl (and-left (ofRights (a .first) s || ofRights (a .second) s) (enabled s) e)
   where
-    go : (c : Bool) → ofRights (a .first) s ≡ c → c || ofRights (a .second) s ≡ true → walked a s ≡ true
-    go true f h = rw (in-rights (a .first) s f a l)
-    go false f h = rw (in-rights (a .second) s h a l) (simp or-true)
+    own : (b : ℕ) → eqb b b ≡ true
+    own b = eq-eqb b b refl
+
+    walked : ℕ → Type 0
+    walked b = any (eqb b) (ruleBuckets a) ≡ true
+
+    go : (c : Bool) → ofRights (a .first) s ≡ c → c || ofRights (a .second) s ≡ true → walked (bucketOf s)
+    go true f h = in-rights (a .first) s f a walked l (simp own) (simp (own, or-true)) (simp (own, or-true))
+    go false f h = in-rights (a .second) s h a walked l (simp (own, or-true)) (simp (own, or-true)) (simp (own, or-true))
 
 -- Only such rules pass the tests of a verdict.
 module _ (a : Asked) (ss : List (List ℕ)) where
   any-located : (t : List ℕ → Bool) → ((s : List ℕ) → t s ≡ true → located a s ≡ true)
-      → any (λ s. rule a s && t s) (keep (walked a) ss) ≡ any (λ s. rule a s && t s) ss
+      → any (λ s. rule a s && t s) (keep (inSome (ruleBuckets a)) ss) ≡ any (λ s. rule a s && t s) ss
   any-located t fits =
-      any-keep (walked a) (λ s. rule a s && t s)
+      any-keep (inSome (ruleBuckets a)) (λ s. rule a s && t s)
       (λ s e. walks-all a s (and-left (rule a s) (t s) e) (fits s (and-right (rule a s) (t s) e))) ss
 
   any-timely : (t : List ℕ → Bool)
-      → any (λ s. rule a s && (t s && located a s && timeFits (a .time) s)) (keep (walked a) ss)
+      → any (λ s. rule a s && (t s && located a s && timeFits (a .time) s)) (keep (inSome (ruleBuckets a)) ss)
       ≡ any (λ s. rule a s && (t s && located a s && timeFits (a .time) s)) ss
   any-timely t =
       any-located (λ s. t s && located a s && timeFits (a .time) s)
       (λ s e. and-right (t s) (located a s) (and-left (t s && located a s) (timeFits (a .time) s) e))
 
-  pub found-all : findings a (keep (λ s. inRights (a .first) a s || inRights (a .second) a s) ss) ≡ findings a ss
+  pub found-all : findings a (keep (inSome (ruleBuckets a)) ss) ≡ findings a ss
   unfolding verdict
   found-all =
       rw (

@@ -1,12 +1,13 @@
 -- What the rules are asked, what they find, and in which buckets a walk over them looks.
-use Prim.Native.Nat.{ℕ}
-use mathlib.Core.List.{List}
+use Prim.Native.Nat.{ℕ, _<_}
+use mathlib.Core.List.{List, [], _∷_}
 use mathlib.Core.Bool.{Bool, _||_}
 use lib.Dec.{eqb}
+use Rattle.model.specs.Words.{any}
 use Rattle.model.specs.Numbers.{access-zone, access-point}
 use Rattle.model.specs.Checks.{verdict}
 use Rattle.model.specs.declared.Verdict.{Verdict}
-use Rattle.index.specs.Index.{ruleBucket, bucketOf}
+use Rattle.index.specs.Index.{buckets, ruleBucket, bucketOf}
 use Rattle.rules.specs.declared.Asked.{Asked}
 
 -- What the rules among some records find of what is asked.
@@ -26,9 +27,22 @@ both v w =
 abbrev pub inBucket : ℕ → List ℕ → Bool
 inBucket b s = eqb (bucketOf s) b
 
--- A record of the buckets of a rights number: everywhere, at the point, or at its Zone_To.
-unfoldable pub inRights : ℕ → Asked → List ℕ → Bool
-inRights rights a s =
-    inBucket (ruleBucket rights 0 0) s
-    || inBucket (ruleBucket rights access-point (a .point)) s
-    || inBucket (ruleBucket rights access-zone (a .to)) s
+-- A record of one of some buckets.
+abbrev pub inSome : List ℕ → List ℕ → Bool
+inSome bs s = any (λ b. inBucket b s) bs
+
+-- The buckets of what is asked: everywhere, at the point and at its Zone_To, each of the one rights number and of the other.
+abbrev pub ruleBuckets : Asked → List ℕ
+ruleBuckets a =
+    ruleBucket (a .first) 0 0
+    ∷ ruleBucket (a .second) 0 0
+    ∷ ruleBucket (a .first) access-point (a .point)
+    ∷ ruleBucket (a .second) access-point (a .point)
+    ∷ ruleBucket (a .first) access-zone (a .to)
+    ∷ ruleBucket (a .second) access-zone (a .to)
+    ∷ []
+
+-- Each of a list is a bucket.
+abbrev pub Buckets : List ℕ → Type 0
+Buckets [] = Unit
+Buckets (b ∷ bs) = (b < buckets) × Buckets bs

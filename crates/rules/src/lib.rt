@@ -18,7 +18,10 @@ ghost use Rattle.model.specs.Words.{keep};
 ghost use Rattle.model.specs.Site.{records};
 ghost use Rattle.model.specs.Checks.{enabledRule, locationFits, weekday, minuteOfDay, timeFits};
 ghost use Rattle.index.specs.Index.{buckets, Indexed};
-ghost use Rattle.rules.specs.Walk.{both, findings, inBucket, inRights};
+ghost use Rattle.rules.specs.Walk.{both, findings, inBucket, ruleBuckets, Buckets};
+
+// The buckets of each of two rights numbers: everywhere, at a point, at its Zone_To.
+const RULE_BUCKETS: usize = 6;
 
 // What the rules are asked: the rights numbers of a credential, a point with its Zone_To, a time.
 pub struct Asked {
@@ -117,29 +120,42 @@ fn with_bucket(site: &[u8], index: &[u16], found: Verdict, bucket: usize, a: Ask
     v
 }
 
-// The same of three buckets: a rule of a rights number that fits in location is in one of them.
-fn with_rights(site: &[u8], index: &[u16], found: Verdict, rights: u32, a: Asked) -> Verdict
-    requires { ⌜ Indexed (now site) (now index) ⌝ }
-    ensures { λ r. ⌜ r ≡ both found (findings a (keep (inRights rights a) (records (now (site .entry))))) ⌝ }
+// The buckets of what is asked: a rule of the rights that fits in location is in one of them. The two numbers' of a location stand side by side, for
+// they are one where the numbers are. Those of NONE are among them too: a rule of that number counts for nothing.
+fn rule_buckets(a: Asked) -> [usize; RULE_BUCKETS]
+    ensures { λ r. ⌜ (r ≡ ruleBuckets a) × Buckets r ⌝ }
 {
-    let everywhere = index::rule_bucket(rights, 0, 0);
-    let at_point = index::rule_bucket(rights, ACCESS_POINT, a.point);
-    let at_zone = index::rule_bucket(rights, ACCESS_ZONE, a.to);
-    let v = with_bucket(site, index, found, everywhere, a);
-    let w = with_bucket(site, index, v, at_point, a);
-    with_bucket(site, index, w, at_zone, a)
+    [
+        index::rule_bucket(a.first, 0, 0),
+        index::rule_bucket(a.second, 0, 0),
+        index::rule_bucket(a.first, ACCESS_POINT, a.point),
+        index::rule_bucket(a.second, ACCESS_POINT, a.point),
+        index::rule_bucket(a.first, ACCESS_ZONE, a.to),
+        index::rule_bucket(a.second, ACCESS_ZONE, a.to),
+    ]
 }
 
-// What the rules of the site find. The buckets of NONE are walked too: a rule of that number counts for nothing.
+// What the rules of the site find. A bucket is not walked twice in a row, for all six may be one that holds every record. Before the first, the last
+// is BUCKETS, which is none.
 pub fn verdict_of(site: &[u8], index: &[u16], a: Asked) -> Verdict
     requires { ⌜ Indexed (now site) (now index) ⌝ }
     ensures { λ r. ⌜ r ≡ findings a (records (now (site .entry))) ⌝ }
 {
-    let nothing = Verdict {
+    let places = rule_buckets(a);
+    let mut v = Verdict {
         negative_fits: false,
         positive_fits: false,
         positive_located: false,
     };
-    let v = with_rights(site, index, nothing, a.first, a);
-    with_rights(site, index, v, a.second, a)
+    let mut last = index::BUCKETS;
+    let mut k = 0;
+    while k < RULE_BUCKETS {
+        let bucket = places[k];
+        if bucket != last {
+            v = with_bucket(site, index, v, bucket, a);
+            last = bucket;
+        }
+        k += 1;
+    }
+    v
 }
