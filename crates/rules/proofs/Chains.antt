@@ -11,7 +11,7 @@ use Rattle.model.specs.declared.Verdict.{Verdict}
 use Rattle.index.specs.Index.{buckets, bucketOf, head, link, IndexedFrom}
 use Rattle.index.proofs.Walks.{Walk, left-turn, left-end, walk-from, walk-on}
 use Rattle.rules.specs.declared.Asked.{Asked}
-use Rattle.rules.specs.Walk.{findings, both, inBucket}
+use Rattle.rules.specs.Walk.{findings, nothingFound, both, inBucket}
 
 -- What is found so far, with what the records left add to it.
 abbrev pub carried : Asked → ℕ → Verdict → ℕ → List (List ℕ) → Verdict
@@ -41,3 +41,18 @@ module _ (a : Asked) (b : ℕ) (ss : List (List ℕ)) where
   pub chain-end : (v : Verdict) (i : ℕ) → length ss ≤ i → carried a b v i (drop i ss) ≡ v
   unfolding both verdict
   chain-end v i h = rw (left-end ss i h) (simp or-false)
+
+-- The same of all records, one by one.
+module _ (a : Asked) (ss : List (List ℕ)) where
+  pub scan-start : {v : Verdict} → v ≡ nothingFound → both v (findings a (drop 0 ss)) ≡ findings a ss
+  unfolding both
+  scan-start e = rw e
+
+  pub scan-turn : (v : Verdict) (i : ℕ) {u : Verdict} → i < length ss → u ≡ both v (findings a (getD ss i [] ∷ []))
+      → both u (findings a (drop (i + 1) ss)) ≡ both v (findings a (drop i ss))
+  unfolding both verdict
+  scan-turn v i h t = rw (t, left-turn ss i h) (simp (or-false, or-assoc))
+
+  pub scan-end : (v : Verdict) (i : ℕ) → length ss ≤ i → both v (findings a (drop i ss)) ≡ v
+  unfolding both verdict
+  scan-end v i h = rw (left-end ss i h) (simp or-false)

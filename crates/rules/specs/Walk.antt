@@ -1,7 +1,7 @@
 -- What the rules are asked, what they find, and in which buckets a walk over them looks.
 use Prim.Native.Nat.{ℕ, _<_}
 use mathlib.Core.List.{List, [], _∷_}
-use mathlib.Core.Bool.{Bool, _||_}
+use mathlib.Core.Bool.{Bool, false, _||_}
 use lib.Dec.{eqb}
 use Rattle.model.specs.Words.{any}
 use Rattle.model.specs.Numbers.{access-zone, access-point}
@@ -13,6 +13,10 @@ use Rattle.rules.specs.declared.Asked.{Asked}
 -- What the rules among some records find of what is asked.
 abbrev pub findings : Asked → List (List ℕ) → Verdict
 findings a ss = verdict (a .first) (a .second) (a .point) (a .to) (a .time) ss
+
+-- What no record finds.
+abbrev pub nothingFound : Verdict
+nothingFound = record { «negative_fits» = false; «positive_fits» = false; «positive_located» = false }
 
 -- What two verdicts find, each over records of its own.
 unfoldable pub both : Verdict → Verdict → Verdict

@@ -12,16 +12,20 @@ use model::numbers::SECONDS_OF_DAY;
 use model::numbers::SECONDS_OF_MINUTE;
 ghost use mathlib.Core.Path.{_≡_};
 ghost use mathlib.Core.List.{[], _∷_};
+ghost use mathlib.Core.Bool.{true};
 ghost use Prim.Native.Nat.{_<_};
 ghost use lib.ListN.{length};
 ghost use Rattle.model.specs.Words.{keep};
 ghost use Rattle.model.specs.Site.{records};
 ghost use Rattle.model.specs.Checks.{enabledRule, locationFits, weekday, minuteOfDay, timeFits};
 ghost use Rattle.index.specs.Index.{buckets, Indexed};
-ghost use Rattle.rules.specs.Walk.{both, findings, inBucket, ruleBuckets, Buckets};
+ghost use Rattle.rules.specs.Walk.{nothingFound, both, findings, inBucket, ruleBuckets, Buckets};
 
 // The buckets of each of two rights numbers: everywhere, at a point, at its Zone_To.
 const RULE_BUCKETS: usize = 6;
+
+// How many links of a chain are followed at most: rules of one rights number and location make long chains, so that more are than for a lookup.
+const LONG_CHAIN: usize = 64;
 
 // What the rules are asked: the rights numbers of a credential, a point with its Zone_To, a time.
 pub struct Asked {
@@ -30,6 +34,12 @@ pub struct Asked {
     pub point: u32,
     pub to: u32,
     pub time: u32,
+}
+
+// What a walk along a chain found, and whether it came to the chain's end.
+pub struct Walked {
+    pub verdict: Verdict,
+    pub ended: bool,
 }
 
 // The day of the week of a time, 0 for Monday.
@@ -85,6 +95,16 @@ pub fn time_fits(part: &[u8], time: u32) -> bool
     always | today & (octets::get_u16(part, 12) <= minute) & (minute < octets::get_u16(part, 14))
 }
 
+fn nothing() -> Verdict
+    ensures { λ r. ⌜ r ≡ nothingFound ⌝ }
+{
+    Verdict {
+        negative_fits: false,
+        positive_fits: false,
+        positive_located: false,
+    }
+}
+
 // What is found so far, with what a record adds to it.
 fn with_record(v: Verdict, part: &[u8], a: Asked) -> Verdict
     requires { ⌜ length (now part) ≡ 32 ⌝ }
@@ -105,17 +125,42 @@ fn with_record(v: Verdict, part: &[u8], a: Asked) -> Verdict
     }
 }
 
-// What is found so far, with what the records of a bucket add to it: only those of its chain are read.
-fn with_bucket(site: &[u8], index: &[u16], found: Verdict, bucket: usize, a: Asked) -> Verdict
+// What is found so far, with what the records of a bucket add to it: only those of its chain are read. A chain that is too long is left.
+fn with_bucket(site: &[u8], index: &[u16], found: Verdict, bucket: usize, a: Asked) -> Walked
     requires { ⌜ Indexed (now site) (now index) × (bucket < buckets) ⌝ }
-    ensures { λ r. ⌜ r ≡ both found (findings a (keep (inBucket bucket) (records (now (site .entry))))) ⌝ }
+    ensures { λ r. ⌜ (r .ended ≡ true → r .verdict ≡ both found (findings a (keep (inBucket bucket) (records (now (site .entry)))))) ⌝ }
 {
     let n = index::record_count(site);
     let mut v = found;
+    let mut links = 0;
     let mut i = index::first_of(index, bucket);
     while i < n {
+        if links == LONG_CHAIN {
+            return Walked {
+                verdict: v,
+                ended: false,
+            };
+        }
         v = with_record(v, index::record_at(site, i), a);
         i = index::next_of(index, i);
+        links += 1;
+    }
+    Walked {
+        verdict: v,
+        ended: true,
+    }
+}
+
+// What all records find, one by one.
+fn scanned(site: &[u8], a: Asked) -> Verdict
+    ensures { λ r. ⌜ r ≡ findings a (records (now (site .entry))) ⌝ }
+{
+    let n = index::record_count(site);
+    let mut v = nothing();
+    let mut i = 0;
+    while i < n {
+        v = with_record(v, index::record_at(site, i), a);
+        i += 1;
     }
     v
 }
@@ -136,23 +181,23 @@ fn rule_buckets(a: Asked) -> [usize; RULE_BUCKETS]
 }
 
 // What the rules of the site find. A bucket is not walked twice in a row, for all six may be one that holds every record. Before the first, the last
-// is BUCKETS, which is none.
+// is BUCKETS, which is none. Where a chain is too long, all records are read.
 pub fn verdict_of(site: &[u8], index: &[u16], a: Asked) -> Verdict
     requires { ⌜ Indexed (now site) (now index) ⌝ }
     ensures { λ r. ⌜ r ≡ findings a (records (now (site .entry))) ⌝ }
 {
     let places = rule_buckets(a);
-    let mut v = Verdict {
-        negative_fits: false,
-        positive_fits: false,
-        positive_located: false,
-    };
+    let mut v = nothing();
     let mut last = index::BUCKETS;
     let mut k = 0;
     while k < RULE_BUCKETS {
         let bucket = places[k];
         if bucket != last {
-            v = with_bucket(site, index, v, bucket, a);
+            let w = with_bucket(site, index, v, bucket, a);
+            if !w.ended {
+                return scanned(site, a);
+            }
+            v = w.verdict;
             last = bucket;
         }
         k += 1;

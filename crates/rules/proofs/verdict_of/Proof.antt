@@ -4,6 +4,7 @@ use mathlib.Core.Path.{_≡_, ap}
 use mathlib.Core.Logic.{⊎-elim}
 use native.Mathlib.Omega.{arith}
 use borrow.Author.Needs.{needs}
+use borrow.Author.Tests.{not-false}
 use lib.ListN.{length}
 use denote.Ref.{now}
 use Rattle.model.specs.Site.{records}
@@ -22,36 +23,36 @@ abbrev μ-loop : tie.MeasureT-loop
 loop-holds : tie.Need-loop-holds Inv-loop μ-loop
 unfolding both
 loop-holds c =
-    let s = c .before .before .before .args in
-    let e = c .rule-buckets .ensures .0 in (
+    let s = c .before .before .before .before .args in
+    let e = c .before .rule-buckets .ensures .0 in (
       ap length e,
-      record { left = rw e (found-all (s .a) (records (now (s .site)))); again = λ h. absurd (omega arith) },
+      record { left = rw (e, c .nothing .ensures) (found-all (s .a) (records (now (s .site)))); again = λ h. absurd (omega arith) },
     )
 
 with-bucket-requires : tie.Need-with-bucket-requires Inv-loop μ-loop
 with-bucket-requires c κs =
-    let r = c .before .before .before in
+    let r = c .before .before .before .before in
     (r .before .before .before .pre, bucket-at (r .rule-buckets .result) (r .rule-buckets .ensures .1) (c .before .before .loop .k))
 
 loop-again : tie.Need-loop-again Inv-loop μ-loop
 loop-again c =
     let l = c .before .before in
-    let s = l .before .before .before .before in
-    let r = l .before .rule-buckets in
+    let s = l .before .before .before .before .before in
+    let r = l .before .before .rule-buckets in
     let h : l .loop .k < length (r .result) = omega arith in
     let i = bucket-at (r .result) (r .ensures .1) (l .loop .k) in (
       l .loop .inv .0,
       ⊎-elim
-          (λ w. rw (w .2, w .3) (round-turn (s .args .a) (records (now (s .args .site))) (r .result) (l .loop .inv .1) h (w .1 .ensures)))
+          (λ w. rw (w .5, w .6) (round-turn (s .args .a) (records (now (s .args .site))) (r .result) (l .loop .inv .1) h (w .1 .ensures (not-false (w .1 .result .ended) (w .3 .left)))))
           (λ w. rw (w .1, w .2) (round-same (s .args .a) (records (now (s .args .site))) (r .result) (l .loop .inv .1) h i (w .0 .left)))
           (c .if1 .came),
     )
 
-returns : tie.Need-returns Inv-loop μ-loop
-returns c =
+returns-2 : tie.Need-returns-2 Inv-loop μ-loop
+returns-2 c =
     let l = c .before in
-    let s = l .before .before .before .before .args in
-    round-end (s .a) (records (now (s .site))) (l .before .rule-buckets .result) (l .loop .inv .1) (omega arith)
+    let s = l .before .before .before .before .before .args in
+    round-end (s .a) (records (now (s .site))) (l .before .before .rule-buckets .result) (l .loop .inv .1) (omega arith)
 
 pub verdict-of-spec : {M : Type 1} → statement M
 verdict-of-spec =
@@ -59,12 +60,14 @@ verdict-of-spec =
     (tie.spec
     Inv-loop
     μ-loop
-    (λ c κs. search needs)
+    (λ c κs. search needs) (λ c κs. search needs)
     loop-holds
     (λ c. search needs)
     (λ c. search needs)
     with-bucket-requires
+    (λ c κs. search needs)
+    (λ c. c .scanned .ensures)
     (λ c. search needs)
     (λ c. search needs)
     loop-again
-    returns)
+    returns-2)
