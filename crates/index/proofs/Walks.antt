@@ -2,15 +2,15 @@
 use Prim.Native.Nat.{ℕ, suc, _+_, _-_, _≤_, _<_}
 use mathlib.Core.Path.{_≡_, refl, sym, _∙_}
 use mathlib.Core.List.{List, [], _∷_}
-use mathlib.Core.Bool.{Bool, true, false}
+use mathlib.Core.Bool.{Bool, true, false, false≢true}
 use native.Mathlib.Numerals.{add-one}
 use native.Mathlib.Omega.{arith}
-use lib.Dec.{eqb}
+use lib.Dec.{eqb, ltb}
 use lib.ListN.{length, drop, getD, drop-of-length-le, length-drop}
 use lib.Seq.{drop-cons, drop-drop, getD-drop}
-use borrow.Author.Tests.{eqb-true, eqb-false}
+use borrow.Author.Tests.{eqb-true, eqb-false, ltb-true, lt-ltb}
 use Rattle.model.specs.Words.{if_then_else_}
-use Rattle.index.specs.Index.{buckets, bucketOf, firstFrom, nextIn, head, link, IndexedFrom}
+use Rattle.index.specs.Index.{buckets, bucketOf, firstFrom, nextIn, head, link, after, IndexedFrom}
 
 -- What is left from the i-th record on: that record, and what is left from the next one on; past the last, nothing.
 module _ (ss : List (List ℕ)) (i : ℕ) where
@@ -83,10 +83,10 @@ module _ {A : Type 0} (f : ℕ → List (List ℕ) → A) (b : ℕ)
       let z : i + (firstFrom b i (drop i ss) - i) ≡ firstFrom b i (drop i ss) = omega (arith, found b i (drop i ss) .low) in
       rw z at (rw drop-drop at (skips i (drop i ss)))
 
--- A walk along the chain of a bucket, over the records from the k-th on, that has come to i.
-pub record Walk {A : Type 0} (f : ℕ → List (List ℕ) → A) (b k : ℕ) (w : A) (ss : List (List ℕ)) (i : ℕ) : Type 0 where
+-- A walk over the records from the k-th on that has come to i: along the chain of a bucket, or, where that is left, one by one.
+pub record Walk {A : Type 0} (f : ℕ → List (List ℕ) → A) (b k : ℕ) (w : A) (ss : List (List ℕ)) (along : Bool) (i : ℕ) : Type 0 where
   pub low : k ≤ i
-  pub here : i < length ss → bucketOf (getD ss i []) ≡ b
+  pub here : along ≡ true → i < length ss → bucketOf (getD ss i []) ≡ b
   pub left : f i (drop i ss) ≡ w
 
 -- What passes over each record that a test does not pass.
@@ -107,24 +107,32 @@ module _ {A : Type 0} (f : ℕ → List (List ℕ) → A) (q : List ℕ → Bool
         go true p = absurd (eqb-false (bucketOf s) b e (has s p))
         go false p = refl
 
-    along : {w : A} (k m j : ℕ) → k ≤ m → f m (drop m ss) ≡ w → j ≡ nextIn b m ss → Walk f b k w ss j
-    along k m j l p e =
+    -- On to the next record of the bucket from the m-th on.
+    onward : {w : A} (k m j : ℕ) (along : Bool) → k ≤ m → f m (drop m ss) ≡ w → j ≡ nextIn b m ss → Walk f b k w ss along j
+    onward k m j along l p e =
         let n : k ≤ nextIn b m ss = omega (arith, next-low b m ss) in
-        rw e (record { low = n; here = next-here b m ss; left = sym (skip f b (λ k s ts h. passes k s ts (misses s h)) m ss) ∙ p })
+        rw e (record { low = n; here = λ t. next-here b m ss; left = sym (skip f b (λ k s ts h. passes k s ts (misses s h)) m ss) ∙ p })
 
     module _ (k : ℕ) (index : List ℕ) (x : IndexedFrom k ss index) where
-      pub walk-from : (i : ℕ) → b < buckets → i ≡ head b index → Walk f b k (f k (drop k ss)) ss i
-      walk-from i l e = along k k i (omega arith) refl (e ∙ x .heads b l)
+      pub walk-from : (along : Bool) (i : ℕ) → b < buckets → i ≡ head b index → Walk f b k (f k (drop k ss)) ss along i
+      walk-from along i l e = onward k k i along (omega arith) refl (e ∙ x .heads b l)
 
-      -- From the record at i on to the next of its bucket, with what is left after it.
-      pub walk-on : {w : A} (i j : ℕ) → i < length ss → k ≤ i → bucketOf (getD ss i []) ≡ b → f (i + 1) (drop (i + 1) ss) ≡ w → j ≡ link i index
-          → Walk f b k w ss j
-      walk-on i j h l m p e = along k (i + 1) j (omega arith) p (e ∙ rw m at (x .links i l h))
+      -- From the record at i on, with what is left after it. A chain that was left is not taken up again.
+      pub walk-on : {w : A} (along next : Bool) (i j : ℕ) → (next ≡ true → along ≡ true) → i < length ss → k ≤ i → (along ≡ true → bucketOf (getD ss i []) ≡ b)
+          → f (i + 1) (drop (i + 1) ss) ≡ w → j ≡ after along i index → Walk f b k w ss next j
+      walk-on true next i j o h l m p e = onward k (i + 1) j next (omega arith) p (e ∙ rw (m refl) at (x .links i l h))
+      walk-on false next i j o h l m p e = rw e (record { low = omega arith; here = λ t. absurd (false≢true (o t)); left = p })
 
       -- The record at i does not pass.
-      pub walk-past : {w : A} (i j : ℕ) → i < length ss → Walk f b k w ss i → q (getD ss i []) ≡ false → j ≡ link i index → Walk f b k w ss j
-      walk-past i j h y n e = walk-on i j h (y .low) (y .here h) (past i h n (y .left)) e
+      pub walk-past : {w : A} (along next : Bool) (i j : ℕ) → (next ≡ true → along ≡ true) → i < length ss → Walk f b k w ss along i
+          → q (getD ss i []) ≡ false → j ≡ after along i index → Walk f b k w ss next j
+      walk-past along next i j o h y n e = walk-on along next i j o h (y .low) (λ t. y .here t h) (past i h n (y .left)) e
 
--- A chain goes on: the next record comes after the i-th, and records have links.
-pub link-after : (k : ℕ) (ss : List (List ℕ)) (index : List ℕ) → IndexedFrom k ss index → (i : ℕ) → k ≤ i → i < length ss → i < link i index
-link-after k ss index x i l h = omega (arith, x .links i l h, next-low (bucketOf (getD ss i [])) (i + 1) ss)
+-- A walk goes on: the record that is tried next comes after the i-th.
+pub after-later : (k : ℕ) (ss : List (List ℕ)) (index : List ℕ) → IndexedFrom k ss index → (along : Bool) (i : ℕ) → k ≤ i → i < length ss → i < after along i index
+after-later k ss index x true i l h = omega (arith, x .links i l h, next-low (bucketOf (getD ss i [])) (i + 1) ss)
+after-later k ss index x false i l h = omega arith
+
+-- Where so many links may be followed and one more, so many may.
+pub fewer-links : (links most : ℕ) → ltb (links + 1) most ≡ true → ltb links most ≡ true
+fewer-links links most e = lt-ltb links most (omega (arith, ltb-true (links + 1) most e))

@@ -2,6 +2,7 @@
 use Prim.Native.Nat.{ℕ, suc, _+_, _*_, _/_, _%_, _≤_, _<_}
 use mathlib.Core.Path.{_≡_}
 use mathlib.Core.List.{List, [], _∷_}
+use mathlib.Core.Bool.{Bool}
 use lib.Dec.{eqb}
 use lib.ListN.{length, drop, getD}
 use Rattle.octets.specs.Octets.{field}
@@ -18,10 +19,6 @@ buckets = 1024
 
 abbrev pub index-size : ℕ
 index-size = 3024
-
--- How many links of a chain are followed at most.
-abbrev pub long-chain : ℕ
-long-chain = 16
 
 -- Three numbers spread over the buckets, and turned on by a fourth.
 unfoldable pub spread : ℕ → ℕ → ℕ → ℕ → ℕ
@@ -71,6 +68,10 @@ head b index = getD index (most-records + b) 0
 
 abbrev pub link : ℕ → List ℕ → ℕ
 link i index = getD index i 0
+
+-- The record that a walk tries after the i-th: the next of its bucket, or the next of all.
+abbrev pub after : Bool → ℕ → List ℕ → ℕ
+after along i index = if along then link i index else i + 1
 
 -- The numbers of an index of the records from the k-th on: the first record of each bucket, and the next of each record's.
 pub record IndexedFrom (k : ℕ) (ss : List (List ℕ)) (index : List ℕ) : Type 0 where

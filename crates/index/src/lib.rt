@@ -24,7 +24,8 @@ pub const INDEX_SIZE: usize = 3024;
 // What an index holds before it is built. Its two bytes differ: a fill with equal bytes becomes a call of memset, and so of another library.
 pub const UNBUILT: u16 = 2000;
 
-// Of a chain longer than this the rest is not followed: each link waits for the one before, so that in a site made to fall into one bucket a scan is quicker.
+// How many links of a chain are followed at most; from there on records are tried one by one. Each link waits for the one before, so that in a site
+// made to fall into one bucket the links would be slower.
 pub const LONG_CHAIN: usize = 16;
 
 // What a bucket is computed with: multiples of 2^30 by numbers far from all fractions, so that neither runs nor steps of instances and values meet.
@@ -176,4 +177,15 @@ pub fn next_of(index: &[u16], i: usize) -> usize
     ensures { λ r. ⌜ r ≡ Index.link i (now (index .entry)) ⌝ }
 {
     wide(index[i])
+}
+
+// The record that a walk tries after the i-th: the next of its bucket, or the next of all.
+pub fn after(index: &[u16], i: usize, along: bool) -> usize
+    requires { ⌜ (length (now index) ≡ index-size) × (i < most-records) ⌝ }
+    ensures { λ r. ⌜ r ≡ Index.after along i (now (index .entry)) ⌝ }
+{
+    if along {
+        return next_of(index, i);
+    }
+    i + 1
 }

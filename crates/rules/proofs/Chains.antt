@@ -1,6 +1,6 @@
 -- The walk along the chain of a bucket: its start, a turn of it, its end.
 use Prim.Native.Nat.{ℕ, suc, _+_, _≤_, _<_}
-use mathlib.Core.Path.{_≡_, _∙_}
+use mathlib.Core.Path.{_≡_, refl, _∙_}
 use mathlib.Core.List.{List, [], _∷_}
 use mathlib.Core.Bool.{true, false, or-assoc, or-false}
 use lib.ListN.{length, drop, getD}
@@ -25,17 +25,17 @@ module _ (a : Asked) (b : ℕ) (ss : List (List ℕ)) where
   has s h = eqb-true (bucketOf s) b h
 
   module _ (index : List ℕ) (x : IndexedFrom 0 ss index) (v : Verdict) where
-    pub chain-start : {i : ℕ} → b < buckets → i ≡ head b index → Walk (carried a b v) b 0 (both v (findings a (keep (inBucket b) ss))) ss i
-    chain-start {i} l e = walk-from (carried a b v) (inBucket b) (passes v) ss b has 0 index x i l e
+    pub chain-start : {i : ℕ} → b < buckets → i ≡ head b index → Walk (carried a b v) b 0 (both v (findings a (keep (inBucket b) ss))) ss true i
+    chain-start {i} l e = walk-from (carried a b v) (inBucket b) (passes v) ss b has 0 index x true i l e
 
     -- The record at i adds what it finds alone, for it is in the bucket.
     pub chain-turn : {u w : Verdict} {i j : ℕ} → i < length ss → u ≡ both v (findings a (getD ss i [] ∷ [])) → j ≡ link i index
-        → Walk (carried a b v) b 0 w ss i → Walk (carried a b u) b 0 w ss j
+        → Walk (carried a b v) b 0 w ss true i → Walk (carried a b u) b 0 w ss true j
     unfolding both verdict
     chain-turn {u} {w} {i} {j} h t e y =
         let l : carried a b u (i + 1) (drop (i + 1) ss) ≡ carried a b v i (drop i ss) =
-        rw (t, left-turn ss i h, eq-eqb (bucketOf (getD ss i [])) b (y .here h)) (simp (or-false, or-assoc)) in
-        walk-on (carried a b u) (inBucket b) (passes u) ss b has 0 index x i j h (y .low) (y .here h) (l ∙ y .left) e
+        rw (t, left-turn ss i h, eq-eqb (bucketOf (getD ss i [])) b (y .here refl h)) (simp (or-false, or-assoc)) in
+        walk-on (carried a b u) (inBucket b) (passes u) ss b has 0 index x true true i j (λ t. t) h (y .low) (λ t. y .here t h) (l ∙ y .left) e
 
   -- No record is left.
   pub chain-end : (v : Verdict) (i : ℕ) → length ss ≤ i → carried a b v i (drop i ss) ≡ v

@@ -8,7 +8,6 @@ ghost use Rattle.site.specs.Place.{placeOf};
 ghost use Rattle.site.specs.Factor.{fits, presentedBucket};
 use super::Place;
 use super::Presented;
-use super::lookup;
 use super::lookup::is_at;
 use super::lookup::is_fitting;
 use index::LONG_CHAIN;
@@ -26,13 +25,10 @@ pub fn place_of(site: &[u8], index: &[u16], kind: u8, instance: u32) -> Place
     let mut links = 0;
     let mut i = index::first_of(index, index::object_bucket(kind, instance));
     while i < n {
-        if links == LONG_CHAIN {
-            return lookup::place_of(site, kind, instance);
-        }
         if is_at(record_at(site, i), kind, instance) {
             return Place::At(i);
         }
-        i = index::next_of(index, i);
+        i = index::after(index, i, links < LONG_CHAIN);
         links += 1;
     }
     Place::Nothing
@@ -81,14 +77,11 @@ pub fn find_factor<'a>(site: &'a [u8], index: &[u16], p: Presented) -> &'a [u8]
     let mut links = 0;
     let mut i = index::first_of(index, presented_bucket(p));
     while i < n {
-        if links == LONG_CHAIN {
-            return lookup::find_factor(site, p);
-        }
         let part = record_at(site, i);
         if is_fitting(part, p) {
             return part;
         }
-        i = index::next_of(index, i);
+        i = index::after(index, i, links < LONG_CHAIN);
         links += 1;
     }
     &site[..0]

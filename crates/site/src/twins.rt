@@ -49,22 +49,6 @@ fn twins(s: &[u8], t: &[u8]) -> bool
     }
 }
 
-// Whether a record from a number on is the same as this one.
-fn has_twin_from(site: &[u8], part: &[u8], from: usize) -> bool
-    requires { ⌜ length (now part) ≡ 32 ⌝ }
-    ensures { λ r. ⌜ r ≡ any (Accept.twins (now (part .entry))) (drop from (records (now (site .entry)))) ⌝ }
-{
-    let n = record_count(site);
-    let mut j = from;
-    while j < n {
-        if twins(part, record_at(site, j)) {
-            return true;
-        }
-        j += 1;
-    }
-    false
-}
-
 // Whether a record after the i-th is the same as it: twins share a bucket. Rules, of which a bucket may hold many, are never twins.
 pub fn has_twin_after(site: &[u8], index: &[u16], i: usize) -> bool
     requires { ⌜ IndexedFrom i (records (now site)) (now index) ⌝ }
@@ -79,13 +63,10 @@ pub fn has_twin_after(site: &[u8], index: &[u16], i: usize) -> bool
     let mut links = 0;
     let mut j = index::next_of(index, i);
     while j < n {
-        if links == LONG_CHAIN {
-            return has_twin_from(site, part, j);
-        }
         if twins(part, record_at(site, j)) {
             return true;
         }
-        j = index::next_of(index, j);
+        j = index::after(index, j, links < LONG_CHAIN);
         links += 1;
     }
     false

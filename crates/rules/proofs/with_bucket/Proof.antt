@@ -2,14 +2,14 @@
 use Prim.Native.Nat.{_≤_, _<_, _-_}
 use mathlib.Core.Path.{_≡_, sym, ap, _∙_}
 use mathlib.Core.List.{[], _∷_}
-use mathlib.Core.Bool.{false≢true}
+use mathlib.Core.Bool.{true, false≢true}
 use native.Mathlib.Omega.{arith}
 use borrow.Author.Needs.{needs}
 use lib.ListN.{length}
 use denote.Ref.{now}
 use Rattle.model.specs.Words.{keep}
 use Rattle.model.specs.Site.{records}
-use Rattle.index.proofs.Walks.{Walk, link-after}
+use Rattle.index.proofs.Walks.{Walk, after-later}
 use Rattle.rules.specs.Walk.{findings, both, inBucket}
 use Rattle.rules.proofs.Chains.{carried, chain-start, chain-turn, chain-end}
 use Rattle.rules.proofs.with_bucket.Statement.{statement}
@@ -17,7 +17,7 @@ use Rattle.rules.proofs.with_bucket.Tie as tie
 
 abbrev Inv-loop : tie.InvT-loop
 Inv-loop site index bucket a n v₀ links₀ i₀ v links i =
-    (n ≡ length (records site)) × (links ≤ 64) × Walk (carried a bucket v) bucket 0 (both v₀ (findings a (keep (inBucket bucket) (records site)))) (records site) i
+    (n ≡ length (records site)) × (links ≤ 64) × Walk (carried a bucket v) bucket 0 (both v₀ (findings a (keep (inBucket bucket) (records site)))) (records site) true i
 
 abbrev μ-loop : tie.MeasureT-loop
 μ-loop site index bucket a n v₀ links₀ i₀ v links i = n - i
@@ -41,7 +41,7 @@ loop-less c =
     let l = c .before .before .before .before .before in
     let s = l .before .before .before .before .before in
     let h : l .loop .i < length (records (now (s .args .site))) = omega arith in
-    omega (arith, c .next-of .ensures, link-after 0 (records (now (s .args .site))) (now (s .args .index)) (s .pre .0) (l .loop .i) (omega arith) h)
+    omega (arith, c .next-of .ensures, after-later 0 (records (now (s .args .site))) (now (s .args .index)) (s .pre .0) true (l .loop .i) (omega arith) h)
 
 loop-again : tie.Need-loop-again Inv-loop μ-loop
 loop-again c =

@@ -1,13 +1,15 @@
--- Along the chain of the bucket: the place in what is left is the place in the whole. Of a long chain the scan says it.
-use Prim.Native.Nat.{_≤_, _<_, _-_}
+-- Along the chain of the bucket, and after many links one by one: the place in what is left is the place in the whole.
+use Prim.Native.Nat.{_+_, _≤_, _<_, _-_}
 use mathlib.Core.Path.{_≡_, sym, _∙_}
 use native.Mathlib.Omega.{arith}
 use borrow.Author.Needs.{needs}
+use mathlib.Core.Bool.{true}
+use lib.Dec.{ltb}
 use lib.ListN.{length}
 use denote.Ref.{now}
 use Rattle.model.specs.Site.{records, isAt}
-use Rattle.index.specs.Index.{objectBucket, long-chain}
-use Rattle.index.proofs.Walks.{left-turn, left-end, Walk, walk-from, walk-past, link-after}
+use Rattle.index.specs.Index.{objectBucket}
+use Rattle.index.proofs.Walks.{left-turn, left-end, Walk, walk-from, walk-past, after-later, fewer-links}
 use Rattle.index.proofs.Buckets.{object-bucket}
 use Rattle.site.specs.Place.{placeFrom, placeOf}
 use Rattle.site.proofs.Passed.{place-passes}
@@ -16,8 +18,8 @@ use Rattle.site.proofs.indexed.place_of.Tie as tie
 
 abbrev Inv-loop : tie.InvT-loop
 Inv-loop site index kind instance n links₀ i₀ links i =
-    (n ≡ length (records site)) × (links ≤ long-chain)
-    × Walk (placeFrom (isAt kind instance)) (objectBucket kind instance) 0 (placeOf kind instance site) (records site) i
+    (n ≡ length (records site)) × (links ≤ i)
+    × Walk (placeFrom (isAt kind instance)) (objectBucket kind instance) 0 (placeOf kind instance site) (records site) (ltb links 16) i
 
 abbrev μ-loop : tie.MeasureT-loop
 μ-loop site index kind instance n links₀ i₀ links i = n - i
@@ -32,47 +34,47 @@ loop-holds c =
       c .before .before .record-count .ensures,
       omega arith,
       walk-from (placeFrom q) q (place-passes q) (records (now (a .site))) (objectBucket (a .kind) (a .instance))
-          (object-bucket (a .kind) (a .instance) (s .pre .1)) 0 (now (a .index)) (s .pre .0) (c .first-of .result) (rw (b .0) at (b .1)) (rw (b .0) at (c .first-of .ensures)),
+          (object-bucket (a .kind) (a .instance) (s .pre .1)) 0 (now (a .index)) (s .pre .0) true (c .first-of .result) (rw (b .0) at (b .1)) (rw (b .0) at (c .first-of .ensures)),
     )
 
-returns-2 : tie.Need-returns-2 Inv-loop μ-loop
+returns : tie.Need-returns Inv-loop μ-loop
 unfolding placeFrom
-returns-2 c =
-    let l = c .before .before .before .before .before in
+returns c =
+    let l = c .before .before .before .before in
     let ss = records (now (l .before .before .before .before .before .before .args .site)) in
     let h : l .loop .i < length ss = omega arith in
-    rw (← l .loop .inv .2 .left, left-turn ss (l .loop .i) h, ← c .before .before .record-at .ensures .0, ← c .before .is-at .ensures, c .if2 .taken)
+    rw (← l .loop .inv .2 .left, left-turn ss (l .loop .i) h, ← c .before .before .record-at .ensures .0, ← c .before .is-at .ensures, c .if1 .taken)
 
-next-of-requires : tie.Need-next-of-requires Inv-loop μ-loop
-next-of-requires c κs =
-    let x = c .before .before .before .before .before .before .before .before .before .before .before .pre .0 in
+after-requires : tie.Need-after-requires Inv-loop μ-loop
+after-requires c κs =
+    let x = c .before .before .before .before .before .before .before .before .before .before .pre .0 in
     (x .size, omega (arith, x .few))
 
 loop-less : tie.Need-loop-less Inv-loop μ-loop
 loop-less c =
-    let l = c .before .before .before .before .before .before in
+    let l = c .before .before .before .before .before in
     let s = l .before .before .before .before .before .before in
     let h : l .loop .i < length (records (now (s .args .site))) = omega arith in
-    omega (arith, c .next-of .ensures, link-after 0 (records (now (s .args .site))) (now (s .args .index)) (s .pre .0) (l .loop .i) (omega arith) h)
+    omega (arith, c .after .ensures, after-later 0 (records (now (s .args .site))) (now (s .args .index)) (s .pre .0) (ltb (l .loop .links) 16) (l .loop .i) (omega arith) h)
 
 loop-again : tie.Need-loop-again Inv-loop μ-loop
 loop-again c =
-    let l = c .before .before .before .before .before .before in
+    let l = c .before .before .before .before .before in
     let s = l .before .before .before .before .before .before in
     let a = s .args in
     let q = isAt (a .kind) (a .instance) in
     let ss = records (now (a .site)) in
     let h : l .loop .i < length ss = omega arith in
-    let n = rw (c .before .before .is-at .ensures, c .before .before .before .record-at .ensures .0) at (c .before .if2 .left) in (
+    let n = rw (c .before .before .is-at .ensures, c .before .before .before .record-at .ensures .0) at (c .before .if1 .left) in (
       l .loop .inv .0,
-      omega arith,
+      omega (arith, c .after .ensures, after-later 0 ss (now (a .index)) (s .pre .0) (ltb (l .loop .links) 16) (l .loop .i) (omega arith) h),
       walk-past (placeFrom q) q (place-passes q) ss (objectBucket (a .kind) (a .instance)) (object-bucket (a .kind) (a .instance) (s .pre .1))
-          0 (now (a .index)) (s .pre .0) (l .loop .i) (c .next-of .result) h (l .loop .inv .2) n (c .next-of .ensures),
+          0 (now (a .index)) (s .pre .0) (ltb (l .loop .links) 16) (ltb (l .loop .links + 1) 16) (l .loop .i) (c .after .result) (fewer-links (l .loop .links) 16) h (l .loop .inv .2) n (c .after .ensures),
     )
 
-returns-3 : tie.Need-returns-3 Inv-loop μ-loop
+returns-2 : tie.Need-returns-2 Inv-loop μ-loop
 unfolding placeFrom
-returns-3 c =
+returns-2 c =
     let l = c .before in
     rw (← l .loop .inv .2 .left, left-end (records (now (l .before .before .before .before .before .before .args .site))) (l .loop .i) (omega arith))
 
@@ -85,13 +87,11 @@ place-of-spec =
     (λ c κs. tt) (λ c κs. tt)
     (λ c κs. (c .before .before .before .before .pre .0 .size, c .object-bucket .ensures .1))
     loop-holds
-    (λ c κs. tt)
-    (λ c. c .place-of .ensures)
     (λ c κs. search needs)
     (λ c κs. c .record-at .ensures .1)
-    returns-2
-    next-of-requires
+    returns
+    after-requires
     (λ c. search needs)
     loop-less
     loop-again
-    returns-3)
+    returns-2)

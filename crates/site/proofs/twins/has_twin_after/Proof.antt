@@ -1,17 +1,19 @@
--- Along the chain from the i-th record on: a twin among what is left is one among all after it. Of a long chain the scan says it.
+-- Along the chain from the i-th record on, and after many links one by one: a twin among what is left is one among all after it.
 use Prim.Native.Nat.{_+_, _≤_, _<_, _-_}
 use mathlib.Core.Path.{_≡_, refl, sym, _∙_}
 use mathlib.Core.List.{[]}
 use native.Mathlib.Omega.{arith}
 use borrow.Author.Needs.{needs}
 use borrow.Author.Tests.{eq-eqb}
+use mathlib.Core.Bool.{true}
+use lib.Dec.{ltb}
 use lib.ListN.{length, getD, drop}
 use denote.Ref.{now}
 use Rattle.model.specs.Words.{any}
 use Rattle.model.specs.Site.{records}
 use Rattle.model.specs.Accept.{twins}
-use Rattle.index.specs.Index.{bucketOf, long-chain}
-use Rattle.index.proofs.Walks.{left-turn, left-end, Walk, walk-on, walk-past, link-after}
+use Rattle.index.specs.Index.{bucketOf}
+use Rattle.index.proofs.Walks.{left-turn, left-end, Walk, walk-on, walk-past, after-later, fewer-links}
 use Rattle.index.proofs.Buckets.{twins-bucket}
 use Rattle.site.proofs.Passed.{anyOf, any-passes, rule-alone}
 use Rattle.site.proofs.twins.has_twin_after.Statement.{statement}
@@ -19,9 +21,9 @@ use Rattle.site.proofs.twins.has_twin_after.Tie as tie
 
 abbrev Inv-loop : tie.InvT-loop
 Inv-loop site index i n part links₀ j₀ links j =
-    (n ≡ length (records site)) × (links ≤ long-chain)
+    (n ≡ length (records site)) × (links ≤ j)
     × Walk (anyOf (twins (getD (records site) i []))) (bucketOf (getD (records site) i [])) i
-    (any (twins (getD (records site) i [])) (drop (i + 1) (records site))) (records site) j
+    (any (twins (getD (records site) i [])) (drop (i + 1) (records site))) (records site) (ltb links 16) j
 
 abbrev μ-loop : tie.MeasureT-loop
 μ-loop site index i n part links₀ j₀ links j = n - j
@@ -42,46 +44,45 @@ loop-holds c =
       c .before .before .before .before .record-count .ensures,
       omega arith,
       walk-on (anyOf (twins s)) (twins s) (any-passes (twins s)) ss (bucketOf s) (twins-bucket s) (a .i) (now (a .index)) (st .pre .0)
-          (a .i) (c .next-of .result) (st .pre .1) (omega arith) refl refl (c .next-of .ensures),
+          true true (a .i) (c .next-of .result) (λ t. t) (st .pre .1) (omega arith) (λ t. refl) refl (c .next-of .ensures),
     )
 
 returns-2 : tie.Need-returns-2 Inv-loop μ-loop
 returns-2 c =
-    let l = c .before .before .before in
-    rw (← l .loop .inv .2 .left, ← l .before .before .before .before .record-at .ensures .0) (c .has-twin-from .ensures)
-
-returns-3 : tie.Need-returns-3 Inv-loop μ-loop
-returns-3 c =
-    let l = c .before .before .before .before .before in
+    let l = c .before .before .before .before in
     let ss = records (now (l .before .before .before .before .before .before .before .before .args .site)) in
     let h : l .loop .j < length ss = omega arith in
-    rw (← l .loop .inv .2 .left, left-turn ss (l .loop .j) h, ← l .before .before .before .before .record-at .ensures .0, ← c .before .before .record-at2 .ensures .0, ← c .before .twins .ensures, c .if3 .taken)
+    rw (← l .loop .inv .2 .left, left-turn ss (l .loop .j) h, ← l .before .before .before .before .record-at .ensures .0, ← c .before .before .record-at2 .ensures .0, ← c .before .twins .ensures, c .if2 .taken)
 
-next-of-requires-2 : tie.Need-next-of-requires-2 Inv-loop μ-loop
-next-of-requires-2 c κs =
-    let x = c .before .before .before .before .before .before .before .before .before .before .before .before .before .pre .0 in
+after-requires : tie.Need-after-requires Inv-loop μ-loop
+after-requires c κs =
+    let x = c .before .before .before .before .before .before .before .before .before .before .before .before .pre .0 in
     (x .size, omega (arith, x .few))
 
 loop-less : tie.Need-loop-less Inv-loop μ-loop
 loop-less c =
-    let l = c .before .before .before .before .before .before in
+    let l = c .before .before .before .before .before in
     let s = l .before .before .before .before .before .before .before .before in
     let h : l .loop .j < length (records (now (s .args .site))) = omega arith in
-    omega (arith, c .next-of2 .ensures, link-after (s .args .i) (records (now (s .args .site))) (now (s .args .index)) (s .pre .0) (l .loop .j) (l .loop .inv .2 .low) h)
+    omega (arith, c .after .ensures, after-later (s .args .i) (records (now (s .args .site))) (now (s .args .index)) (s .pre .0) (ltb (l .loop .links) 16) (l .loop .j) (l .loop .inv .2 .low) h)
 
 loop-again : tie.Need-loop-again Inv-loop μ-loop
 loop-again c =
-    let l = c .before .before .before .before .before .before in
+    let l = c .before .before .before .before .before in
     let st = l .before .before .before .before .before .before .before .before in
     let a = st .args in
     let ss = records (now (a .site)) in
     let s = getD ss (a .i) [] in
     let h : l .loop .j < length ss = omega arith in
-    let n = rw (c .before .before .twins .ensures, l .before .before .before .before .record-at .ensures .0, c .before .before .before .record-at2 .ensures .0) at (c .before .if3 .left) in
-    (l .loop .inv .0, omega arith, walk-past (anyOf (twins s)) (twins s) (any-passes (twins s)) ss (bucketOf s) (twins-bucket s) (a .i) (now (a .index)) (st .pre .0) (l .loop .j) (c .next-of2 .result) h (l .loop .inv .2) n (c .next-of2 .ensures))
+    let n = rw (c .before .before .twins .ensures, l .before .before .before .before .record-at .ensures .0, c .before .before .before .record-at2 .ensures .0) at (c .before .if2 .left) in (
+      l .loop .inv .0,
+      omega (arith, c .after .ensures, after-later (a .i) ss (now (a .index)) (st .pre .0) (ltb (l .loop .links) 16) (l .loop .j) (l .loop .inv .2 .low) h),
+      walk-past (anyOf (twins s)) (twins s) (any-passes (twins s)) ss (bucketOf s) (twins-bucket s) (a .i) (now (a .index)) (st .pre .0)
+          (ltb (l .loop .links) 16) (ltb (l .loop .links + 1) 16) (l .loop .j) (c .after .result) (fewer-links (l .loop .links) 16) h (l .loop .inv .2) n (c .after .ensures),
+    )
 
-returns-4 : tie.Need-returns-4 Inv-loop μ-loop
-returns-4 c =
+returns-3 : tie.Need-returns-3 Inv-loop μ-loop
+returns-3 c =
     let l = c .before in
     rw (← l .loop .inv .2 .left, left-end (records (now (l .before .before .before .before .before .before .before .before .args .site))) (l .loop .j) (omega arith))
 
@@ -97,13 +98,11 @@ has-twin-after-spec =
     returns
     (λ c κs. let x = c .before .before .before .before .before .before .pre .0 in (x .size, omega (arith, x .few, c .before .before .before .before .before .before .pre .1)))
     loop-holds
-    (λ c κs. c .before .before .before .before .before .before .record-at .ensures .1)
-    returns-2
     (λ c κs. search needs)
-    (λ c κs. (c .before .before .before .before .before .before .before .record-at .ensures .1, c .record-at2 .ensures .1))
-    returns-3
-    next-of-requires-2
+    (λ c κs. (c .before .before .before .before .before .before .record-at .ensures .1, c .record-at2 .ensures .1))
+    returns-2
+    after-requires
     (λ c. search needs)
     loop-less
     loop-again
-    returns-4)
+    returns-3)
