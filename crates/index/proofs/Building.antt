@@ -40,7 +40,7 @@ emptied ss index size few h =
     record {
       size = size;
       few = few;
-      heads = λ b l. h b (omega arith) ∙ sym (next-end b (length ss) ss (omega arith));
+      heads = λ b l. h b (omega arith) ∙ sym (next-end bucketOf b (length ss) ss (omega arith));
       links = λ i l m. absurd (omega arith);
     }
 
@@ -52,30 +52,30 @@ inserted i ss index h b same fits x = record { size = simp length-set (x .size);
     one : List ℕ
     one = set index i (head b index)
 
-    heads : (a : ℕ) → a < buckets → head a (set one (most-records + b) i) ≡ nextIn a i ss
+    heads : (a : ℕ) → a < buckets → head a (set one (most-records + b) i) ≡ nextIn bucketOf a i ss
     heads a l = go (eqb b a) refl
       where
-        go : (c : Bool) → eqb b a ≡ c → head a (set one (most-records + b) i) ≡ nextIn a i ss
+        go : (c : Bool) → eqb b a ≡ c → head a (set one (most-records + b) i) ≡ nextIn bucketOf a i ss
         go true e =
             let q : b ≡ a = eqb-true b a e in
             let m : most-records + b < length one = simp length-set (omega (arith, x .size)) in
-            rw (next-turn a i ss h, ← same, e, ← q) (getD-set-same one (most-records + b) i 0 m)
+            rw (next-turn bucketOf a i ss h, ← same, e, ← q) (getD-set-same one (most-records + b) i 0 m)
         go false e =
             let n : a ≡ b → ⊥ = λ q. eqb-false b a e (sym q) in
             let o : head a (set one (most-records + b) i) ≡ head a one = getD-set-other one (most-records + b) (most-records + a) i 0 (λ q. n (omega arith)) in
             let p : head a one ≡ head a index = getD-set-other index i (most-records + a) (head b index) 0 (λ q. omega (arith, x .few)) in
-            o ∙ p ∙ x .heads a l ∙ rw (next-turn a i ss h, ← same, e)
+            o ∙ p ∙ x .heads a l ∙ rw (next-turn bucketOf a i ss h, ← same, e)
 
     away : (j : ℕ) → j < length ss → link j (set one (most-records + b) i) ≡ link j one
     away j m = getD-set-other one (most-records + b) j i 0 (λ q. omega (arith, x .few))
 
-    links : (j : ℕ) → i ≤ j → j < length ss → link j (set one (most-records + b) i) ≡ nextIn (bucketOf (getD ss j [])) (j + 1) ss
+    links : (j : ℕ) → i ≤ j → j < length ss → link j (set one (most-records + b) i) ≡ nextIn bucketOf (bucketOf (getD ss j [])) (j + 1) ss
     links j l m = go (eqb j i) refl
       where
         more : (j ≡ i → ⊥) → i + 1 ≤ j
         more n = omega (arith, n)
 
-        go : (c : Bool) → eqb j i ≡ c → link j (set one (most-records + b) i) ≡ nextIn (bucketOf (getD ss j [])) (j + 1) ss
+        go : (c : Bool) → eqb j i ≡ c → link j (set one (most-records + b) i) ≡ nextIn bucketOf (bucketOf (getD ss j [])) (j + 1) ss
         go true e =
             let q : j ≡ i = eqb-true j i e in
             rw (q, ← same) (away i h ∙ getD-set-same index i (head b index) 0 (omega (arith, x .few, x .size)) ∙ x .heads b fits)

@@ -10,6 +10,7 @@ use lib.ListN.{length, drop, getD, drop-of-length-le, length-drop}
 use lib.Seq.{drop-cons, drop-drop, getD-drop}
 use borrow.Author.Tests.{eqb-true, eqb-false, ltb-true, lt-ltb}
 use Rattle.model.specs.Words.{if_then_else_}
+use Rattle.model.specs.Site.{kind}
 use Rattle.index.specs.Index.{buckets, bucketOf, firstFrom, nextIn, head, link, after, IndexedFrom}
 
 -- What is left from the i-th record on: that record, and what is left from the next one on; past the last, nothing.
@@ -20,70 +21,71 @@ module _ (ss : List (List ℕ)) (i : ℕ) where
   pub left-end : length ss ≤ i → drop i ss ≡ []
   left-end h = drop-of-length-le ss h
 
--- Where the first record of a bucket stands.
-record Found (b from : ℕ) (ss : List (List ℕ)) (j : ℕ) : Type 0 where
-  low : from ≤ j
-  high : j ≤ from + length ss
-  here : j - from < length ss → bucketOf (getD ss (j - from) []) ≡ b
+-- Records by a class, such as their bucket or their kind.
+module _ (class : List ℕ → ℕ) where
+  -- Where the first record of a class stands.
+  record Found (c from : ℕ) (ss : List (List ℕ)) (j : ℕ) : Type 0 where
+    low : from ≤ j
+    here : j - from < length ss → class (getD ss (j - from) []) ≡ c
 
-found : (b from : ℕ) (ss : List (List ℕ)) → Found b from ss (firstFrom b from ss)
-unfolding firstFrom
-found b from [] = record { low = omega arith; high = omega arith; here = λ h. absurd (omega arith) }
-found b from (s ∷ ss) = go (eqb (bucketOf s) b) refl (found b (suc from) ss)
-  where
-    go : (c : Bool) → eqb (bucketOf s) b ≡ c → Found b (suc from) ss (firstFrom b (suc from) ss) →
-        Found b from (s ∷ ss) (if c then from else firstFrom b (suc from) ss)
-    go true e h =
-        let d : from - from ≡ 0 = omega arith in
-        record { low = omega arith; high = omega arith; here = λ _. rw d (eqb-true (bucketOf s) b e) }
-    go false e h =
-        let d : firstFrom b (suc from) ss - from ≡ suc (firstFrom b (suc from) ss - suc from) = omega (arith, h .low) in
-        record { low = omega (arith, h .low); high = omega (arith, h .high); here = λ l. rw d (h .here (omega (arith, h .low))) }
-
-module _ (b i : ℕ) (ss : List (List ℕ)) where
-  pub next-low : i ≤ nextIn b i ss
-  unfolding nextIn
-  next-low = found b i (drop i ss) .low
-
-  next-here : nextIn b i ss < length ss → bucketOf (getD ss (nextIn b i ss) []) ≡ b
-  unfolding nextIn
-  next-here h =
-      let f = found b i (drop i ss) in
-      let z : i + (firstFrom b i (drop i ss) - i) ≡ firstFrom b i (drop i ss) = omega (arith, f .low) in
-      rw (z) at (rw (getD-drop) at (f .here (simp length-drop (omega (arith, f .low)))))
-
-  -- The record at i, or the next after it.
-  pub next-turn : i < length ss → nextIn b i ss ≡ if eqb (bucketOf (getD ss i [])) b then i else nextIn b (i + 1) ss
-  unfolding nextIn firstFrom
-  next-turn h = rw (add-one i, drop-cons ss i [] h)
-
-  pub next-end : length ss ≤ i → nextIn b i ss ≡ i
-  unfolding nextIn firstFrom
-  next-end h = rw (left-end ss i h)
-
--- What passes over the records of other buckets may go on from the next record of the bucket.
-module _ {A : Type 0} (f : ℕ → List (List ℕ) → A) (b : ℕ)
-    (over : (k : ℕ) (s : List ℕ) (ss : List (List ℕ)) → eqb (bucketOf s) b ≡ false → f k (s ∷ ss) ≡ f (suc k) ss) where
-  skips : (from : ℕ) (ss : List (List ℕ)) → f from ss ≡ f (firstFrom b from ss) (drop (firstFrom b from ss - from) ss)
+  found : (c from : ℕ) (ss : List (List ℕ)) → Found c from ss (firstFrom class c from ss)
   unfolding firstFrom
-  skips from [] = let d : from - from ≡ 0 = omega arith in rw d
-  skips from (s ∷ ss) = go (eqb (bucketOf s) b) refl (skips (suc from) ss)
+  found c from [] = record { low = omega arith; here = λ h. absurd (omega arith) }
+  found c from (s ∷ ss) = go (eqb (class s) c) refl (found c (suc from) ss)
     where
-      go : (c : Bool) → eqb (bucketOf s) b ≡ c →
-          f (suc from) ss ≡ f (firstFrom b (suc from) ss) (drop (firstFrom b (suc from) ss - suc from) ss) →
-          f from (s ∷ ss) ≡ f (if c then from else firstFrom b (suc from) ss) (drop ((if c then from else firstFrom b (suc from) ss) - from) (s ∷ ss))
-      go true e h = let d : from - from ≡ 0 = omega arith in rw d
+      go : (t : Bool) → eqb (class s) c ≡ t → Found c (suc from) ss (firstFrom class c (suc from) ss) →
+          Found c from (s ∷ ss) (if t then from else firstFrom class c (suc from) ss)
+      go true e h =
+          let d : from - from ≡ 0 = omega arith in
+          record { low = omega arith; here = λ _. rw d (eqb-true (class s) c e) }
       go false e h =
-          let d : firstFrom b (suc from) ss - from ≡ suc (firstFrom b (suc from) ss - suc from) = omega (arith, found b (suc from) ss .low) in
-          over from s ss e ∙ h ∙ rw d
+          let d : firstFrom class c (suc from) ss - from ≡ suc (firstFrom class c (suc from) ss - suc from) = omega (arith, h .low) in
+          record { low = omega (arith, h .low); here = λ l. rw d (h .here (omega (arith, h .low))) }
 
-  skip : (i : ℕ) (ss : List (List ℕ)) → f i (drop i ss) ≡ f (nextIn b i ss) (drop (nextIn b i ss) ss)
-  unfolding nextIn
-  skip i ss =
-      let z : i + (firstFrom b i (drop i ss) - i) ≡ firstFrom b i (drop i ss) = omega (arith, found b i (drop i ss) .low) in
-      rw z at (rw drop-drop at (skips i (drop i ss)))
+  module _ (c i : ℕ) (ss : List (List ℕ)) where
+    pub next-low : i ≤ nextIn class c i ss
+    unfolding nextIn
+    next-low = found c i (drop i ss) .low
 
--- A walk over the records from the k-th on that has come to i: along the chain of a bucket, or, where that is left, one by one.
+    next-here : nextIn class c i ss < length ss → class (getD ss (nextIn class c i ss) []) ≡ c
+    unfolding nextIn
+    next-here h =
+        let f = found c i (drop i ss) in
+        let z : i + (firstFrom class c i (drop i ss) - i) ≡ firstFrom class c i (drop i ss) = omega (arith, f .low) in
+        rw (z) at (rw (getD-drop) at (f .here (simp length-drop (omega (arith, f .low)))))
+
+    -- The record at i, or the next after it.
+    pub next-turn : i < length ss → nextIn class c i ss ≡ if eqb (class (getD ss i [])) c then i else nextIn class c (i + 1) ss
+    unfolding nextIn firstFrom
+    next-turn h = rw (add-one i, drop-cons ss i [] h)
+
+    pub next-end : length ss ≤ i → nextIn class c i ss ≡ i
+    unfolding nextIn firstFrom
+    next-end h = rw (left-end ss i h)
+
+  -- What passes over the records of other classes may go on from the next record of the class.
+  module _ {A : Type 0} (f : ℕ → List (List ℕ) → A) (c : ℕ)
+      (over : (k : ℕ) (s : List ℕ) (ss : List (List ℕ)) → eqb (class s) c ≡ false → f k (s ∷ ss) ≡ f (suc k) ss) where
+    skips : (from : ℕ) (ss : List (List ℕ)) → f from ss ≡ f (firstFrom class c from ss) (drop (firstFrom class c from ss - from) ss)
+    unfolding firstFrom
+    skips from [] = let d : from - from ≡ 0 = omega arith in rw d
+    skips from (s ∷ ss) = go (eqb (class s) c) refl (skips (suc from) ss)
+      where
+        go : (t : Bool) → eqb (class s) c ≡ t →
+            f (suc from) ss ≡ f (firstFrom class c (suc from) ss) (drop (firstFrom class c (suc from) ss - suc from) ss) →
+            f from (s ∷ ss) ≡ f (if t then from else firstFrom class c (suc from) ss) (drop ((if t then from else firstFrom class c (suc from) ss) - from) (s ∷ ss))
+        go true e h = let d : from - from ≡ 0 = omega arith in rw d
+        go false e h =
+            let d : firstFrom class c (suc from) ss - from ≡ suc (firstFrom class c (suc from) ss - suc from) = omega (arith, found c (suc from) ss .low) in
+            over from s ss e ∙ h ∙ rw d
+
+    skip : (i : ℕ) (ss : List (List ℕ)) → f i (drop i ss) ≡ f (nextIn class c i ss) (drop (nextIn class c i ss) ss)
+    unfolding nextIn
+    skip i ss =
+        let z : i + (firstFrom class c i (drop i ss) - i) ≡ firstFrom class c i (drop i ss) = omega (arith, found c i (drop i ss) .low) in
+        rw z at (rw drop-drop at (skips i (drop i ss)))
+
+-- A walk over the records from the k-th on that has come to i: along the chain of a bucket, or, where that is left, over the records of a kind.
 pub record Walk {A : Type 0} (f : ℕ → List (List ℕ) → A) (b k : ℕ) (w : A) (ss : List (List ℕ)) (along : Bool) (i : ℕ) : Type 0 where
   pub low : k ≤ i
   pub here : along ≡ true → i < length ss → bucketOf (getD ss i []) ≡ b
@@ -98,40 +100,46 @@ module _ {A : Type 0} (f : ℕ → List (List ℕ) → A) (q : List ℕ → Bool
       let p : f i (drop i ss) ≡ f (i + 1) (drop (i + 1) ss) = rw (add-one i, drop-cons ss i [] h) (passes i (getD ss i []) (drop (suc i) ss) n) in
       sym p ∙ l
 
-  -- Only records of the bucket pass the test.
-  module _ (b : ℕ) (has : (s : List ℕ) → q s ≡ true → bucketOf s ≡ b) where
-    misses : (s : List ℕ) → eqb (bucketOf s) b ≡ false → q s ≡ false
-    misses s e = go (q s) refl
-      where
-        go : (c : Bool) → q s ≡ c → c ≡ false
-        go true p = absurd (eqb-false (bucketOf s) b e (has s p))
-        go false p = refl
+  -- Only records of a class pass the test: from the m-th record on, the next of the class decides.
+  onward : (class : List ℕ → ℕ) (c : ℕ) → ((s : List ℕ) → q s ≡ true → class s ≡ c) → {w : A} (m : ℕ) → f m (drop m ss) ≡ w
+      → f (nextIn class c m ss) (drop (nextIn class c m ss) ss) ≡ w
+  onward class c has m p = sym (skip class f c (λ k s ts h. passes k s ts (misses s h)) m ss) ∙ p
+    where
+      misses : (s : List ℕ) → eqb (class s) c ≡ false → q s ≡ false
+      misses s e = go (q s) refl
+        where
+          go : (t : Bool) → q s ≡ t → t ≡ false
+          go true p = absurd (eqb-false (class s) c e (has s p))
+          go false p = refl
 
-    -- On to the next record of the bucket from the m-th on.
-    onward : {w : A} (k m j : ℕ) (along : Bool) → k ≤ m → f m (drop m ss) ≡ w → j ≡ nextIn b m ss → Walk f b k w ss along j
-    onward k m j along l p e =
-        let n : k ≤ nextIn b m ss = omega (arith, next-low b m ss) in
-        rw e (record { low = n; here = λ t. next-here b m ss; left = sym (skip f b (λ k s ts h. passes k s ts (misses s h)) m ss) ∙ p })
+  -- Only records of the bucket pass the test, and only records of the kind.
+  module _ (b : ℕ) (has : (s : List ℕ) → q s ≡ true → bucketOf s ≡ b) (k : ℕ) (index : List ℕ) (x : IndexedFrom k ss index) where
+    chained : {w : A} (m j : ℕ) (along : Bool) → k ≤ m → f m (drop m ss) ≡ w → j ≡ nextIn bucketOf b m ss → Walk f b k w ss along j
+    chained m j along l p e =
+        let n : k ≤ nextIn bucketOf b m ss = omega (arith, next-low bucketOf b m ss) in
+        rw e (record { low = n; here = λ t. next-here bucketOf b m ss; left = onward bucketOf b has m p })
 
-    module _ (k : ℕ) (index : List ℕ) (x : IndexedFrom k ss index) where
-      pub walk-from : (along : Bool) (i : ℕ) → b < buckets → i ≡ head b index → Walk f b k (f k (drop k ss)) ss along i
-      walk-from along i l e = onward k k i along (omega arith) refl (e ∙ x .heads b l)
+    pub walk-from : (along : Bool) (i : ℕ) → b < buckets → i ≡ head b index → Walk f b k (f k (drop k ss)) ss along i
+    walk-from along i l e = chained k i along (omega arith) refl (e ∙ x .heads b l)
 
-      -- From the record at i on, with what is left after it. A chain that was left is not taken up again.
-      pub walk-on : {w : A} (along next : Bool) (i j : ℕ) → (next ≡ true → along ≡ true) → i < length ss → k ≤ i → (along ≡ true → bucketOf (getD ss i []) ≡ b)
-          → f (i + 1) (drop (i + 1) ss) ≡ w → j ≡ after along i index → Walk f b k w ss next j
-      walk-on true next i j o h l m p e = onward k (i + 1) j next (omega arith) p (e ∙ rw (m refl) at (x .links i l h))
-      walk-on false next i j o h l m p e = rw e (record { low = omega arith; here = λ t. absurd (false≢true (o t)); left = p })
+    -- From the record at i, of the bucket, on to the next of it.
+    pub walk-on : {w : A} (along : Bool) (i j : ℕ) → i < length ss → k ≤ i → bucketOf (getD ss i []) ≡ b → f (i + 1) (drop (i + 1) ss) ≡ w → j ≡ link i index
+        → Walk f b k w ss along j
+    walk-on along i j h l m p e = chained (i + 1) j along (omega arith) p (e ∙ rw m at (x .links i l h))
 
-      -- The record at i does not pass.
-      pub walk-past : {w : A} (along next : Bool) (i j : ℕ) → (next ≡ true → along ≡ true) → i < length ss → Walk f b k w ss along i
-          → q (getD ss i []) ≡ false → j ≡ after along i index → Walk f b k w ss next j
-      walk-past along next i j o h y n e = walk-on along next i j o h (y .low) (λ t. y .here t h) (past i h n (y .left)) e
+    -- The record at i does not pass. A chain that was left is not taken up again.
+    pub walk-past : {w : A} (kd : ℕ) → ((s : List ℕ) → q s ≡ true → kind s ≡ kd) → (along next : Bool) (i j : ℕ) → (next ≡ true → along ≡ true)
+        → i < length ss → Walk f b k w ss along i → q (getD ss i []) ≡ false → j ≡ after along kd i ss index → Walk f b k w ss next j
+    walk-past kd kinds true next i j o h y n e = walk-on next i j h (y .low) (y .here refl h) (past i h n (y .left)) e
+    walk-past kd kinds false next i j o h y n e =
+        let l : k ≤ nextIn kind kd (i + 1) ss = omega (arith, y .low, next-low kind kd (i + 1) ss) in
+        rw e (record { low = l; here = λ t. absurd (false≢true (o t)); left = onward kind kd kinds (i + 1) (past i h n (y .left)) })
 
 -- A walk goes on: the record that is tried next comes after the i-th.
-pub after-later : (k : ℕ) (ss : List (List ℕ)) (index : List ℕ) → IndexedFrom k ss index → (along : Bool) (i : ℕ) → k ≤ i → i < length ss → i < after along i index
-after-later k ss index x true i l h = omega (arith, x .links i l h, next-low (bucketOf (getD ss i [])) (i + 1) ss)
-after-later k ss index x false i l h = omega arith
+pub after-later : (k : ℕ) (ss : List (List ℕ)) (index : List ℕ) → IndexedFrom k ss index → (along : Bool) (kd i : ℕ) → k ≤ i → i < length ss
+    → i < after along kd i ss index
+after-later k ss index x true kd i l h = omega (arith, x .links i l h, next-low bucketOf (bucketOf (getD ss i [])) (i + 1) ss)
+after-later k ss index x false kd i l h = omega (arith, next-low kind kd (i + 1) ss)
 
 -- Where so many links may be followed and one more, so many may.
 pub fewer-links : (links most : ℕ) → ltb (links + 1) most ≡ true → ltb links most ≡ true

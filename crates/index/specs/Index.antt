@@ -53,14 +53,15 @@ bucketOf s =
     else if eqb (kind s) access-rule then bucketOfRule s
     else objectBucket (kind s) (instance s)
 
--- The number of the first record of a bucket, the first of the list counted as `from`; the number past the last where there is none.
-unfoldable pub firstFrom : ℕ → ℕ → List (List ℕ) → ℕ
-firstFrom b from [] = from
-firstFrom b from (s ∷ ss) = if eqb (bucketOf s) b then from else firstFrom b (suc from) ss
+-- The number of the first record of a class, such as a bucket or a kind, the first of the list counted as `from`; the number past the last where
+-- there is none.
+unfoldable pub firstFrom : (List ℕ → ℕ) → ℕ → ℕ → List (List ℕ) → ℕ
+firstFrom class c from [] = from
+firstFrom class c from (s ∷ ss) = if eqb (class s) c then from else firstFrom class c (suc from) ss
 
--- The number of the first record of a bucket from the i-th on. The number of records ends the chain of a bucket.
-unfoldable pub nextIn : ℕ → ℕ → List (List ℕ) → ℕ
-nextIn b i ss = firstFrom b i (drop i ss)
+-- The number of the first record of a class from the i-th on.
+unfoldable pub nextIn : (List ℕ → ℕ) → ℕ → ℕ → List (List ℕ) → ℕ
+nextIn class c i ss = firstFrom class c i (drop i ss)
 
 -- The number that stands for a bucket, and the one that stands for a record.
 abbrev pub head : ℕ → List ℕ → ℕ
@@ -69,16 +70,17 @@ head b index = getD index (most-records + b) 0
 abbrev pub link : ℕ → List ℕ → ℕ
 link i index = getD index i 0
 
--- The record that a walk tries after the i-th: the next of its bucket, or the next of all.
-abbrev pub after : Bool → ℕ → List ℕ → ℕ
-after along i index = if along then link i index else i + 1
+-- The record that a walk for a kind tries after the i-th: the next of its bucket, or the next of the kind.
+abbrev pub after : Bool → ℕ → ℕ → List (List ℕ) → List ℕ → ℕ
+after along k i ss index = if along then link i index else nextIn kind k (i + 1) ss
 
--- The numbers of an index of the records from the k-th on: the first record of each bucket, and the next of each record's.
+-- The numbers of an index of the records from the k-th on: the first record of each bucket, and the next of each record's. The number of records
+-- ends the chain of a bucket.
 pub record IndexedFrom (k : ℕ) (ss : List (List ℕ)) (index : List ℕ) : Type 0 where
   pub size : length index ≡ index-size
   pub few : length ss ≤ most-records
-  pub heads : (b : ℕ) → b < buckets → head b index ≡ nextIn b k ss
-  pub links : (i : ℕ) → k ≤ i → i < length ss → link i index ≡ nextIn (bucketOf (getD ss i [])) (i + 1) ss
+  pub heads : (b : ℕ) → b < buckets → head b index ≡ nextIn bucketOf b k ss
+  pub links : (i : ℕ) → k ≤ i → i < length ss → link i index ≡ nextIn bucketOf (bucketOf (getD ss i [])) (i + 1) ss
 
 -- The index of a site.
 abbrev pub Indexed : List ℕ → List ℕ → Type 0

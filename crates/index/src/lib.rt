@@ -6,9 +6,10 @@ ghost use mathlib.Core.List.{[]};
 ghost use Prim.Native.Nat.{_+_, _≤_, _<_};
 ghost use lib.ListN.{length, getD};
 ghost use Rattle.octets.specs.Octets.{field};
+ghost use Rattle.model.specs.Site as Site;
 ghost use Rattle.model.specs.Site.{records};
 ghost use Rattle.index.specs.Index as Index;
-ghost use Rattle.index.specs.Index.{most-records, buckets, index-size, objectBucket, ruleBucket, factorBucket, bucketOf, IndexedFrom};
+ghost use Rattle.index.specs.Index.{most-records, buckets, index-size, objectBucket, ruleBucket, factorBucket, bucketOf, nextIn, IndexedFrom};
 use model::numbers::ACCESS_RULE;
 use model::numbers::AUTHENTICATION_FACTOR;
 use model::numbers::MODULUS;
@@ -24,9 +25,9 @@ pub const INDEX_SIZE: usize = 3024;
 // What an index holds before it is built. Its two bytes differ: a fill with equal bytes becomes a call of memset, and so of another library.
 pub const UNBUILT: u16 = 2000;
 
-// How many links of a chain are followed at most; from there on records are tried one by one. Each link waits for the one before, so that in a site
-// made to fall into one bucket the links would be slower.
-pub const LONG_CHAIN: usize = 16;
+// How many links of a chain are followed at most; from there on the records of the kind are tried one by one. Each link waits for the one before, so
+// that in a site made to fall into one bucket a scan is quicker.
+pub const LONG_CHAIN: usize = 8;
 
 // What a bucket is computed with: multiples of 2^30 by numbers far from all fractions, so that neither runs nor steps of instances and values meet.
 const SPREAD_FIRST: usize = 663608941;
@@ -179,13 +180,29 @@ pub fn next_of(index: &[u16], i: usize) -> usize
     wide(index[i])
 }
 
-// The record that a walk tries after the i-th: the next of its bucket, or the next of all.
-pub fn after(index: &[u16], i: usize, along: bool) -> usize
-    requires { ⌜ (length (now index) ≡ index-size) × (i < most-records) ⌝ }
-    ensures { λ r. ⌜ r ≡ Index.after along i (now (index .entry)) ⌝ }
+// The first record of a kind from a number on.
+fn next_of_kind(site: &[u8], kind: u8, from: usize) -> usize
+    requires { ⌜ from ≤ length (records (now site)) ⌝ }
+    ensures { λ r. ⌜ r ≡ nextIn Site.kind kind from (records (now (site .entry))) ⌝ }
+{
+    let n = record_count(site);
+    let mut i = from;
+    while i < n {
+        if octets::get_u8(record_at(site, i), 0) == kind {
+            return i;
+        }
+        i += 1;
+    }
+    n
+}
+
+// The record that a walk for a kind tries after the i-th: the next of its bucket, or the next of the kind.
+pub fn after(site: &[u8], index: &[u16], kind: u8, i: usize, along: bool) -> usize
+    requires { ⌜ (length (now index) ≡ index-size) × (i < most-records) × (i < length (records (now site))) ⌝ }
+    ensures { λ r. ⌜ r ≡ Index.after along kind i (records (now (site .entry))) (now (index .entry)) ⌝ }
 {
     if along {
         return next_of(index, i);
     }
-    i + 1
+    next_of_kind(site, kind, i + 1)
 }

@@ -35,7 +35,7 @@ module _ (a : Asked) (b : ℕ) (ss : List (List ℕ)) where
     chain-turn {u} {w} {i} {j} h t e y =
         let l : carried a b u (i + 1) (drop (i + 1) ss) ≡ carried a b v i (drop i ss) =
         rw (t, left-turn ss i h, eq-eqb (bucketOf (getD ss i [])) b (y .here refl h)) (simp (or-false, or-assoc)) in
-        walk-on (carried a b u) (inBucket b) (passes u) ss b has 0 index x true true i j (λ t. t) h (y .low) (λ t. y .here t h) (l ∙ y .left) e
+        walk-on (carried a b u) (inBucket b) (passes u) ss b has 0 index x true i j h (y .low) (y .here refl h) (l ∙ y .left) e
 
   -- No record is left.
   pub chain-end : (v : Verdict) (i : ℕ) → length ss ≤ i → carried a b v i (drop i ss) ≡ v

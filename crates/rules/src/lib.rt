@@ -25,7 +25,7 @@ ghost use Rattle.rules.specs.Walk.{nothingFound, both, findings, inBucke
 const RULE_BUCKETS: usize = 6;
 
 // How many links of a chain are followed at most: rules of one rights number and location make long chains, so that more are than for a lookup.
-const LONG_CHAIN: usize = 64;
+const LONG_CHAIN: usize = 32;
 
 // What the rules are asked: the rights numbers of a credential, a point with its Zone_To, a time.
 pub struct Asked {

@@ -1,18 +1,19 @@
 -- What a walk over the records of a site passes over, record by record or along the chain of a bucket.
 use Prim.Native.Nat.{ℕ, zero, suc, _+_, _<_}
-use mathlib.Core.Path.{_≡_, refl}
+use mathlib.Core.Path.{_≡_, refl, sym}
 use mathlib.Core.List.{List, [], _∷_}
 use mathlib.Core.Bool.{Bool, true, false, _&&_, _||_, and-false}
 use native.Mathlib.Omega.{arith}
 use lib.Dec.{eqb}
 use lib.ListN.{length, drop, getD}
+use borrow.Author.Tests.{eqb-true}
 use Rattle.model.specs.Words.{if_then_else_, any, all}
-use Rattle.model.specs.Numbers.{access-rule}
-use Rattle.model.specs.Site.{kind, findIn}
+use Rattle.model.specs.Numbers.{access-rule, authentication-factor, role-identifying, role-confirming}
+use Rattle.model.specs.Site.{kind, instance, role, isAt, findIn}
 use Rattle.model.specs.Accept.{twins, twice}
 use Rattle.model.proofs.Laws.{and-left, and-right}
 use Rattle.octets.specs.Octets.{field}
-use Rattle.model.specs.Checks.{identifying, confirming}
+use Rattle.model.specs.Checks.{presents, identifying, confirming}
 use Rattle.index.specs.Index.{factorBucket, bucketOf}
 use Rattle.index.proofs.Walks.{left-turn}
 use Rattle.index.proofs.Buckets.{identifying-bucket, confirming-bucket}
@@ -76,3 +77,22 @@ pub twice-turn : (ss : List (List ℕ)) (i : ℕ) → i < length ss
     → twice (drop i ss) ≡ any (twins (getD ss i [])) (drop (i + 1) ss) || twice (drop (i + 1) ss)
 unfolding twice
 twice-turn ss i h = rw (left-turn ss i h)
+
+-- What passes is of the kind that is sought.
+pub at-kind : (k i : ℕ) (s : List ℕ) → isAt k i s ≡ true → kind s ≡ k
+at-kind k i s h = eqb-true (kind s) k (and-left (eqb (kind s) k) (eqb (instance s) i) h)
+
+pub fits-kind : (p : Presented) (s : List ℕ) → fits p s ≡ true → kind s ≡ authentication-factor
+unfolding fits identifying confirming
+fits-kind p s h = go (p .confirms) h
+  where
+    rest : ℕ → Bool
+    rest r = eqb (role s) r && presents (p .format) (p .value) s
+
+    go : (c : Bool) → (if c then confirming (p .credential .0) (p .format) (p .value) else identifying (p .format) (p .value)) s ≡ true → kind s ≡ authentication-factor
+    go true h = at-kind authentication-factor (p .credential .0) s (and-left (isAt authentication-factor (p .credential .0) s) (rest role-confirming) h)
+    go false h = eqb-true (kind s) authentication-factor (and-left (eqb (kind s) authentication-factor) (rest role-identifying) h)
+
+pub twins-kind : (s t : List ℕ) → twins s t ≡ true → kind t ≡ kind s
+unfolding twins
+twins-kind s t h = sym (eqb-true (kind s) (kind t) (and-left (eqb (kind s) (kind t)) _ h))

@@ -13,6 +13,7 @@ use super::lookup::is_fitting;
 use index::LONG_CHAIN;
 use index::record_at;
 use index::record_count;
+use model::numbers::AUTHENTICATION_FACTOR;
 use model::numbers::NONE;
 
 // The place of the first record of a kind and an instance.
@@ -28,7 +29,7 @@ pub fn place_of(site: &[u8], index: &[u16], kind: u8, instance: u32) -> Place
         if is_at(record_at(site, i), kind, instance) {
             return Place::At(i);
         }
-        i = index::after(index, i, links < LONG_CHAIN);
+        i = index::after(site, index, kind, i, links < LONG_CHAIN);
         links += 1;
     }
     Place::Nothing
@@ -81,7 +82,7 @@ pub fn find_factor<'a>(site: &'a [u8], index: &[u16], p: Presented) -> &'a [u8]
         if is_fitting(part, p) {
             return part;
         }
-        i = index::after(index, i, links < LONG_CHAIN);
+        i = index::after(site, index, AUTHENTICATION_FACTOR, i, links < LONG_CHAIN);
         links += 1;
     }
     &site[..0]

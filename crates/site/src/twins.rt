@@ -57,7 +57,8 @@ pub fn has_twin_after(site: &[u8], index: &[u16], i: usize) -> bool
 {
     let n = record_count(site);
     let part = record_at(site, i);
-    if octets::get_u8(part, 0) == ACCESS_RULE {
+    let kind = octets::get_u8(part, 0);
+    if kind == ACCESS_RULE {
         return false;
     }
     let mut links = 0;
@@ -66,7 +67,7 @@ pub fn has_twin_after(site: &[u8], index: &[u16], i: usize) -> bool
         if twins(part, record_at(site, j)) {
             return true;
         }
-        j = index::after(index, j, links < LONG_CHAIN);
+        j = index::after(site, index, kind, j, links < LONG_CHAIN);
         links += 1;
     }
     false

@@ -17,7 +17,7 @@ use Rattle.rules.proofs.with_bucket.Tie as tie
 
 abbrev Inv-loop : tie.InvT-loop
 Inv-loop site index bucket a n v₀ links₀ i₀ v links i =
-    (n ≡ length (records site)) × (links ≤ 64) × Walk (carried a bucket v) bucket 0 (both v₀ (findings a (keep (inBucket bucket) (records site)))) (records site) true i
+    (n ≡ length (records site)) × (links ≤ 32) × Walk (carried a bucket v) bucket 0 (both v₀ (findings a (keep (inBucket bucket) (records site)))) (records site) true i
 
 abbrev μ-loop : tie.MeasureT-loop
 μ-loop site index bucket a n v₀ links₀ i₀ v links i = n - i
@@ -41,7 +41,7 @@ loop-less c =
     let l = c .before .before .before .before .before in
     let s = l .before .before .before .before .before in
     let h : l .loop .i < length (records (now (s .args .site))) = omega arith in
-    omega (arith, c .next-of .ensures, after-later 0 (records (now (s .args .site))) (now (s .args .index)) (s .pre .0) true (l .loop .i) (omega arith) h)
+    omega (arith, c .next-of .ensures, after-later 0 (records (now (s .args .site))) (now (s .args .index)) (s .pre .0) true 0 (l .loop .i) (omega arith) h)
 
 loop-again : tie.Need-loop-again Inv-loop μ-loop
 loop-again c =

@@ -12,14 +12,14 @@ use Rattle.index.specs.Index.{objectBucket}
 use Rattle.index.proofs.Walks.{left-turn, left-end, Walk, walk-from, walk-past, after-later, fewer-links}
 use Rattle.index.proofs.Buckets.{object-bucket}
 use Rattle.site.specs.Place.{placeFrom, placeOf}
-use Rattle.site.proofs.Passed.{place-passes}
+use Rattle.site.proofs.Passed.{place-passes, at-kind}
 use Rattle.site.proofs.indexed.place_of.Statement.{statement}
 use Rattle.site.proofs.indexed.place_of.Tie as tie
 
 abbrev Inv-loop : tie.InvT-loop
 Inv-loop site index kind instance n links₀ i₀ links i =
     (n ≡ length (records site)) × (links ≤ i)
-    × Walk (placeFrom (isAt kind instance)) (objectBucket kind instance) 0 (placeOf kind instance site) (records site) (ltb links 16) i
+    × Walk (placeFrom (isAt kind instance)) (objectBucket kind instance) 0 (placeOf kind instance site) (records site) (ltb links 8) i
 
 abbrev μ-loop : tie.MeasureT-loop
 μ-loop site index kind instance n links₀ i₀ links i = n - i
@@ -48,14 +48,14 @@ returns c =
 after-requires : tie.Need-after-requires Inv-loop μ-loop
 after-requires c κs =
     let x = c .before .before .before .before .before .before .before .before .before .before .pre .0 in
-    (x .size, omega (arith, x .few))
+    (x .size, omega (arith, x .few), omega arith)
 
 loop-less : tie.Need-loop-less Inv-loop μ-loop
 loop-less c =
     let l = c .before .before .before .before .before in
     let s = l .before .before .before .before .before .before in
     let h : l .loop .i < length (records (now (s .args .site))) = omega arith in
-    omega (arith, c .after .ensures, after-later 0 (records (now (s .args .site))) (now (s .args .index)) (s .pre .0) (ltb (l .loop .links) 16) (l .loop .i) (omega arith) h)
+    omega (arith, c .after .ensures, after-later 0 (records (now (s .args .site))) (now (s .args .index)) (s .pre .0) (ltb (l .loop .links) 8) (s .args .kind) (l .loop .i) (omega arith) h)
 
 loop-again : tie.Need-loop-again Inv-loop μ-loop
 loop-again c =
@@ -67,9 +67,9 @@ loop-again c =
     let h : l .loop .i < length ss = omega arith in
     let n = rw (c .before .before .is-at .ensures, c .before .before .before .record-at .ensures .0) at (c .before .if1 .left) in (
       l .loop .inv .0,
-      omega (arith, c .after .ensures, after-later 0 ss (now (a .index)) (s .pre .0) (ltb (l .loop .links) 16) (l .loop .i) (omega arith) h),
+      omega (arith, c .after .ensures, after-later 0 ss (now (a .index)) (s .pre .0) (ltb (l .loop .links) 8) (a .kind) (l .loop .i) (omega arith) h),
       walk-past (placeFrom q) q (place-passes q) ss (objectBucket (a .kind) (a .instance)) (object-bucket (a .kind) (a .instance) (s .pre .1))
-          0 (now (a .index)) (s .pre .0) (ltb (l .loop .links) 16) (ltb (l .loop .links + 1) 16) (l .loop .i) (c .after .result) (fewer-links (l .loop .links) 16) h (l .loop .inv .2) n (c .after .ensures),
+          0 (now (a .index)) (s .pre .0) (a .kind) (at-kind (a .kind) (a .instance)) (ltb (l .loop .links) 8) (ltb (l .loop .links + 1) 8) (l .loop .i) (c .after .result) (fewer-links (l .loop .links) 8) h (l .loop .inv .2) n (c .after .ensures),
     )
 
 returns-2 : tie.Need-returns-2 Inv-loop μ-loop

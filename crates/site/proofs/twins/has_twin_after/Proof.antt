@@ -1,6 +1,6 @@
 -- Along the chain from the i-th record on, and after many links one by one: a twin among what is left is one among all after it.
 use Prim.Native.Nat.{_+_, _≤_, _<_, _-_}
-use mathlib.Core.Path.{_≡_, refl, sym, _∙_}
+use mathlib.Core.Path.{_≡_, refl, sym, ap, _∙_}
 use mathlib.Core.List.{[]}
 use native.Mathlib.Omega.{arith}
 use borrow.Author.Needs.{needs}
@@ -10,23 +10,23 @@ use lib.Dec.{ltb}
 use lib.ListN.{length, getD, drop}
 use denote.Ref.{now}
 use Rattle.model.specs.Words.{any}
-use Rattle.model.specs.Site.{records}
+use Rattle.model.specs.Site.{kind, records}
 use Rattle.model.specs.Accept.{twins}
 use Rattle.index.specs.Index.{bucketOf}
 use Rattle.index.proofs.Walks.{left-turn, left-end, Walk, walk-on, walk-past, after-later, fewer-links}
 use Rattle.index.proofs.Buckets.{twins-bucket}
-use Rattle.site.proofs.Passed.{anyOf, any-passes, rule-alone}
+use Rattle.site.proofs.Passed.{anyOf, any-passes, rule-alone, twins-kind}
 use Rattle.site.proofs.twins.has_twin_after.Statement.{statement}
 use Rattle.site.proofs.twins.has_twin_after.Tie as tie
 
 abbrev Inv-loop : tie.InvT-loop
-Inv-loop site index i n part links₀ j₀ links j =
+Inv-loop site index i n part kind₀ links₀ j₀ links j =
     (n ≡ length (records site)) × (links ≤ j)
     × Walk (anyOf (twins (getD (records site) i []))) (bucketOf (getD (records site) i [])) i
-    (any (twins (getD (records site) i [])) (drop (i + 1) (records site))) (records site) (ltb links 16) j
+    (any (twins (getD (records site) i [])) (drop (i + 1) (records site))) (records site) (ltb links 8) j
 
 abbrev μ-loop : tie.MeasureT-loop
-μ-loop site index i n part links₀ j₀ links j = n - j
+μ-loop site index i n part kind₀ links₀ j₀ links j = n - j
 
 returns : tie.Need-returns Inv-loop μ-loop
 returns c =
@@ -44,7 +44,7 @@ loop-holds c =
       c .before .before .before .before .record-count .ensures,
       omega arith,
       walk-on (anyOf (twins s)) (twins s) (any-passes (twins s)) ss (bucketOf s) (twins-bucket s) (a .i) (now (a .index)) (st .pre .0)
-          true true (a .i) (c .next-of .result) (λ t. t) (st .pre .1) (omega arith) (λ t. refl) refl (c .next-of .ensures),
+          true (a .i) (c .next-of .result) (st .pre .1) (omega arith) refl refl (c .next-of .ensures),
     )
 
 returns-2 : tie.Need-returns-2 Inv-loop μ-loop
@@ -57,18 +57,19 @@ returns-2 c =
 after-requires : tie.Need-after-requires Inv-loop μ-loop
 after-requires c κs =
     let x = c .before .before .before .before .before .before .before .before .before .before .before .before .pre .0 in
-    (x .size, omega (arith, x .few))
+    (x .size, omega (arith, x .few), omega arith)
 
 loop-less : tie.Need-loop-less Inv-loop μ-loop
 loop-less c =
     let l = c .before .before .before .before .before in
     let s = l .before .before .before .before .before .before .before .before in
     let h : l .loop .j < length (records (now (s .args .site))) = omega arith in
-    omega (arith, c .after .ensures, after-later (s .args .i) (records (now (s .args .site))) (now (s .args .index)) (s .pre .0) (ltb (l .loop .links) 16) (l .loop .j) (l .loop .inv .2 .low) h)
+    omega (arith, c .after .ensures, after-later (s .args .i) (records (now (s .args .site))) (now (s .args .index)) (s .pre .0) (ltb (l .loop .links) 8) (l .before .before .before .get-u8 .result) (l .loop .j) (l .loop .inv .2 .low) h)
 
 loop-again : tie.Need-loop-again Inv-loop μ-loop
 loop-again c =
     let l = c .before .before .before .before .before in
+    let k = l .before .before .before in
     let st = l .before .before .before .before .before .before .before .before in
     let a = st .args in
     let ss = records (now (a .site)) in
@@ -76,9 +77,9 @@ loop-again c =
     let h : l .loop .j < length ss = omega arith in
     let n = rw (c .before .before .twins .ensures, l .before .before .before .before .record-at .ensures .0, c .before .before .before .record-at2 .ensures .0) at (c .before .if2 .left) in (
       l .loop .inv .0,
-      omega (arith, c .after .ensures, after-later (a .i) ss (now (a .index)) (st .pre .0) (ltb (l .loop .links) 16) (l .loop .j) (l .loop .inv .2 .low) h),
+      omega (arith, c .after .ensures, after-later (a .i) ss (now (a .index)) (st .pre .0) (ltb (l .loop .links) 8) (k .get-u8 .result) (l .loop .j) (l .loop .inv .2 .low) h),
       walk-past (anyOf (twins s)) (twins s) (any-passes (twins s)) ss (bucketOf s) (twins-bucket s) (a .i) (now (a .index)) (st .pre .0)
-          (ltb (l .loop .links) 16) (ltb (l .loop .links + 1) 16) (l .loop .j) (c .after .result) (fewer-links (l .loop .links) 16) h (l .loop .inv .2) n (c .after .ensures),
+          (k .get-u8 .result) (λ t h. twins-kind s t h ∙ sym (k .get-u8 .ensures ∙ ap kind (k .before .record-at .ensures .0))) (ltb (l .loop .links) 8) (ltb (l .loop .links + 1) 8) (l .loop .j) (c .after .result) (fewer-links (l .loop .links) 8) h (l .loop .inv .2) n (c .after .ensures),
     )
 
 returns-3 : tie.Need-returns-3 Inv-loop μ-loop
