@@ -103,12 +103,16 @@ pub fn place_of_credential(site: &[u8], credential: CredentialId) -> Place
     place_of(site, ACCESS_CREDENTIAL, credential.0)
 }
 
-// Whether eight bytes of one slice are eight bytes of another: as numbers, which is one comparison.
+// Whether eight bytes of one slice are eight bytes of another. They are compared as two words, which is quicker than byte by byte or as one number, and
+// the second word first, since values with leading zeros differ there.
 pub fn same_eight(a: &[u8], i: usize, b: &[u8], j: usize) -> bool
     requires { ⌜ (i + 8 ≤ length (now a)) × (j + 8 ≤ length (now b)) ⌝ }
     ensures { λ r. ⌜ r ≡ same (take 8 (drop i (now (a .entry)))) (take 8 (drop j (now (b .entry)))) ⌝ }
 {
-    octets::get_u64(a, i) == octets::get_u64(b, j)
+    if octets::get_u32(a, i + 4) != octets::get_u32(b, j + 4) {
+        return false;
+    }
+    octets::get_u32(a, i) == octets::get_u32(b, j)
 }
 
 // Whether a factor has a value. All eight bytes are compared, leading zeros included.
