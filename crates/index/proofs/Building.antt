@@ -11,7 +11,7 @@ use borrow.Author.Tests.{eqb-true, eqb-false}
 use Rattle.octets.proofs.Groups.{length-groups}
 use Rattle.model.specs.Words.{if_then_else_}
 use Rattle.model.specs.Site.{records}
-use Rattle.index.specs.Index.{most-records, buckets, index-size, bucketOf, nextIn, head, link, IndexedFrom}
+use Rattle.index.specs.Index.{most-records, buckets, kind-classes, index-size, bucketOf, kindClass, nextIn, head, kindHead, link, IndexedFrom}
 use Rattle.index.proofs.Walks.{next-turn, next-end}
 
 -- There are as many records as whole groups of 32 bytes.
@@ -33,7 +33,7 @@ emptied-more n i index l h b m = go (eqb (most-records + b) i) refl
         other : (most-records + b ≡ i → ⊥) → most-records + b < i
         other k = omega (arith, k)
 
--- No record yet: every bucket is empty.
+-- No record yet: every bucket and every class of kinds is empty.
 pub emptied : (ss : List (List ℕ)) (index : List ℕ) → length index ≡ index-size → length ss ≤ most-records → Emptied (length ss) index-size index
     → IndexedFrom (length ss) ss index
 emptied ss index size few h =
@@ -41,42 +41,65 @@ emptied ss index size few h =
       size = size;
       few = few;
       heads = λ b l. h b (omega arith) ∙ sym (next-end bucketOf b (length ss) ss (omega arith));
+      kinds = kinds;
       links = λ i l m. absurd (omega arith);
     }
-
--- One record more: its link is its bucket's head, and it becomes the head.
-pub inserted : (i : ℕ) (ss : List (List ℕ)) (index : List ℕ) → i < length ss → (b : ℕ) → b ≡ bucketOf (getD ss i []) → b < buckets
-    → IndexedFrom (i + 1) ss index → IndexedFrom i ss (set (set index i (head b index)) (most-records + b) i)
-inserted i ss index h b same fits x = record { size = simp length-set (x .size); few = x .few; heads = heads; links = links }
   where
-    one : List ℕ
-    one = set index i (head b index)
+    kinds : (c : ℕ) → c < kind-classes → kindHead c index ≡ nextIn kindClass c (length ss) ss
+    kinds c l =
+        let z : most-records + buckets + c ≡ most-records + (buckets + c) = omega arith in
+        rw z (h (buckets + c) (omega arith)) ∙ sym (next-end kindClass c (length ss) ss (omega arith))
 
-    heads : (a : ℕ) → a < buckets → head a (set one (most-records + b) i) ≡ nextIn bucketOf a i ss
-    heads a l = go (eqb b a) refl
-      where
-        go : (c : Bool) → eqb b a ≡ c → head a (set one (most-records + b) i) ≡ nextIn bucketOf a i ss
-        go true e =
-            let q : b ≡ a = eqb-true b a e in
-            let m : most-records + b < length one = simp length-set (omega (arith, x .size)) in
-            rw (next-turn bucketOf a i ss h, ← same, e, ← q) (getD-set-same one (most-records + b) i 0 m)
-        go false e =
-            let n : a ≡ b → ⊥ = λ q. eqb-false b a e (sym q) in
-            let o : head a (set one (most-records + b) i) ≡ head a one = getD-set-other one (most-records + b) (most-records + a) i 0 (λ q. n (omega arith)) in
-            let p : head a one ≡ head a index = getD-set-other index i (most-records + a) (head b index) 0 (λ q. omega (arith, x .few)) in
-            o ∙ p ∙ x .heads a l ∙ rw (next-turn bucketOf a i ss h, ← same, e)
+-- The i-th record becomes the head of its class, and the other heads stay. The heads of the classes stand from o on.
+headed : (class : List ℕ → ℕ) (o i : ℕ) (ss : List (List ℕ)) (index : List ℕ) → i < length ss → (b : ℕ) → b ≡ class (getD ss i []) → o + b < length index
+    → (a : ℕ) → getD index (o + a) 0 ≡ nextIn class a (i + 1) ss → getD (set index (o + b) i) (o + a) 0 ≡ nextIn class a i ss
+headed class o i ss index h b same fits a x = go (eqb b a) refl
+  where
+    go : (c : Bool) → eqb b a ≡ c → getD (set index (o + b) i) (o + a) 0 ≡ nextIn class a i ss
+    go true e = let q : b ≡ a = eqb-true b a e in rw (next-turn class a i ss h, ← same, e, ← q) (getD-set-same index (o + b) i 0 fits)
+    go false e =
+        let n : a ≡ b → ⊥ = λ q. eqb-false b a e (sym q) in
+        getD-set-other index (o + b) (o + a) i 0 (λ q. n (omega arith)) ∙ x ∙ rw (next-turn class a i ss h, ← same, e)
 
-    away : (j : ℕ) → j < length ss → link j (set one (most-records + b) i) ≡ link j one
-    away j m = getD-set-other one (most-records + b) j i 0 (λ q. omega (arith, x .few))
+-- One record more: its link is its bucket's head, and it becomes the head, also of its kind's class.
+module _ (i : ℕ) (ss : List (List ℕ)) (index : List ℕ) (h : i < length ss) (b : ℕ) (same : b ≡ bucketOf (getD ss i [])) (fits : b < buckets)
+    (d : ℕ) (also : d ≡ kindClass (getD ss i [])) (small : d < kind-classes) (x : IndexedFrom (i + 1) ss index) where
+  abbrev one : List ℕ
+  one = set index i (head b index)
 
-    links : (j : ℕ) → i ≤ j → j < length ss → link j (set one (most-records + b) i) ≡ nextIn bucketOf (bucketOf (getD ss j [])) (j + 1) ss
-    links j l m = go (eqb j i) refl
-      where
-        more : (j ≡ i → ⊥) → i + 1 ≤ j
-        more n = omega (arith, n)
+  abbrev two : List ℕ
+  two = set one (most-records + b) i
 
-        go : (c : Bool) → eqb j i ≡ c → link j (set one (most-records + b) i) ≡ nextIn bucketOf (bucketOf (getD ss j [])) (j + 1) ss
-        go true e =
-            let q : j ≡ i = eqb-true j i e in
-            rw (q, ← same) (away i h ∙ getD-set-same index i (head b index) 0 (omega (arith, x .few, x .size)) ∙ x .heads b fits)
-        go false e = away j m ∙ getD-set-other index i j (head b index) 0 (eqb-false j i e) ∙ x .links j (more (eqb-false j i e)) m
+  abbrev three : List ℕ
+  three = set two (most-records + buckets + d) i
+
+  heads : (a : ℕ) → a < buckets → head a three ≡ nextIn bucketOf a i ss
+  heads a l =
+      let p : head a one ≡ nextIn bucketOf a (i + 1) ss = getD-set-other index i (most-records + a) (head b index) 0 (λ q. omega (arith, x .few)) ∙ x .heads a l in
+      getD-set-other two (most-records + buckets + d) (most-records + a) i 0 (λ q. omega arith)
+      ∙ headed bucketOf most-records i ss one h b same (simp length-set (omega (arith, x .size))) a p
+
+  kinds : (a : ℕ) → a < kind-classes → kindHead a three ≡ nextIn kindClass a i ss
+  kinds a l =
+      let p : kindHead a one ≡ nextIn kindClass a (i + 1) ss = getD-set-other index i (most-records + buckets + a) (head b index) 0 (λ q. omega (arith, x .few)) ∙ x .kinds a l in
+      headed kindClass (most-records + buckets) i ss two h d also (simp (length-set, length-set) (omega (arith, x .size))) a
+      (getD-set-other one (most-records + b) (most-records + buckets + a) i 0 (λ q. omega arith) ∙ p)
+
+  away : (j : ℕ) → j < length ss → link j three ≡ link j one
+  away j m =
+      getD-set-other two (most-records + buckets + d) j i 0 (λ q. omega (arith, x .few)) ∙ getD-set-other one (most-records + b) j i 0 (λ q. omega (arith, x .few))
+
+  links : (j : ℕ) → i ≤ j → j < length ss → link j three ≡ nextIn bucketOf (bucketOf (getD ss j [])) (j + 1) ss
+  links j l m = go (eqb j i) refl
+    where
+      more : (j ≡ i → ⊥) → i + 1 ≤ j
+      more n = omega (arith, n)
+
+      go : (c : Bool) → eqb j i ≡ c → link j three ≡ nextIn bucketOf (bucketOf (getD ss j [])) (j + 1) ss
+      go true e =
+          let q : j ≡ i = eqb-true j i e in
+          rw (q, ← same) (away i h ∙ getD-set-same index i (head b index) 0 (omega (arith, x .few, x .size)) ∙ x .heads b fits)
+      go false e = away j m ∙ getD-set-other index i j (head b index) 0 (eqb-false j i e) ∙ x .links j (more (eqb-false j i e)) m
+
+  pub inserted : IndexedFrom i ss three
+  inserted = record { size = simp (length-set, length-set, length-set) (x .size); few = x .few; heads = heads; kinds = kinds; links = links }

@@ -1,17 +1,18 @@
 -- Walks over the records of a site, one by one or along the chain of a bucket: what is left from the i-th record on decides.
-use Prim.Native.Nat.{ℕ, suc, _+_, _-_, _≤_, _<_}
+use Prim.Native.Nat.{ℕ, zero, suc, _+_, _-_, _%_, _≤_, _<_}
 use mathlib.Core.Path.{_≡_, refl, sym, _∙_}
 use mathlib.Core.List.{List, [], _∷_}
 use mathlib.Core.Bool.{Bool, true, false, false≢true}
+use native.Mathlib.Nat.{add-zero}
 use native.Mathlib.Numerals.{add-one}
 use native.Mathlib.Omega.{arith}
 use lib.Dec.{eqb, ltb}
 use lib.ListN.{length, drop, getD, drop-of-length-le, length-drop}
 use lib.Seq.{drop-cons, drop-drop, getD-drop}
-use borrow.Author.Tests.{eqb-true, eqb-false, ltb-true, lt-ltb}
+use borrow.Author.Tests.{eqb-true, eqb-false, ne-eqb, ltb-true, ltb-false, lt-ltb}
 use Rattle.model.specs.Words.{if_then_else_}
 use Rattle.model.specs.Site.{kind}
-use Rattle.index.specs.Index.{buckets, bucketOf, firstFrom, nextIn, head, link, after, IndexedFrom}
+use Rattle.index.specs.Index.{buckets, kind-classes, bucketOf, kindClass, firstFrom, nextIn, head, link, after, IndexedFrom}
 
 -- What is left from the i-th record on: that record, and what is left from the next one on; past the last, nothing.
 module _ (ss : List (List ℕ)) (i : ℕ) where
@@ -62,6 +63,22 @@ module _ (class : List ℕ → ℕ) where
     pub next-end : length ss ≤ i → nextIn class c i ss ≡ i
     unfolding nextIn firstFrom
     next-end h = rw (left-end ss i h)
+
+  -- What is next from the k-th on is next from all up to it.
+  pub next-again : (c k : ℕ) (ss : List (List ℕ)) (d : ℕ) → k + d ≤ nextIn class c k ss → nextIn class c (k + d) ss ≡ nextIn class c k ss
+  next-again c k ss zero h = rw (add-zero k)
+  next-again c k ss (suc d) h = go (ltb (k + d) (length ss)) refl (next-again c k ss d (omega arith))
+    where
+      passed : k + d < length ss → (t : Bool) → eqb (class (getD ss (k + d) [])) c ≡ t → nextIn class c (k + d) ss ≡ nextIn class c k ss
+          → nextIn class c (k + d) ss ≡ nextIn class c (k + d + 1) ss
+      passed l true e ih = absurd (omega (arith, ih, rw e at (next-turn c (k + d) ss l)))
+      passed l false e ih = rw e at (next-turn c (k + d) ss l)
+
+      go : (t : Bool) → ltb (k + d) (length ss) ≡ t → nextIn class c (k + d) ss ≡ nextIn class c k ss → nextIn class c (k + suc d) ss ≡ nextIn class c k ss
+      go true e ih =
+          let z : k + suc d ≡ k + d + 1 = omega arith in
+          rw z (sym (passed (ltb-true (k + d) (length ss) e) (eqb (class (getD ss (k + d) [])) c) refl ih) ∙ ih)
+      go false e ih = absurd (omega (arith, ih, next-end c (k + d) ss (ltb-false (k + d) (length ss) e)))
 
   -- What passes over the records of other classes may go on from the next record of the class.
   module _ {A : Type 0} (f : ℕ → List (List ℕ) → A) (c : ℕ)
@@ -134,6 +151,22 @@ module _ {A : Type 0} (f : ℕ → List (List ℕ) → A) (q : List ℕ → Bool
     walk-past kd kinds false next i j o h y n e =
         let l : k ≤ nextIn kind kd (i + 1) ss = omega (arith, y .low, next-low kind kd (i + 1) ss) in
         rw e (record { low = l; here = λ t. absurd (false≢true (o t)); left = onward kind kd kinds (i + 1) (past i h n (y .left)) })
+
+-- The next of a kind is the next from the next of its class on.
+by-class : (kd i : ℕ) (ss : List (List ℕ)) → nextIn kind kd i ss ≡ nextIn kind kd (nextIn kindClass (kd % kind-classes) i ss) ss
+unfolding nextIn firstFrom
+by-class kd i ss = skip kindClass (firstFrom kind kd) (kd % kind-classes) other i ss
+  where
+    other : (j : ℕ) (s : List ℕ) (ts : List (List ℕ)) → eqb (kindClass s) (kd % kind-classes) ≡ false → firstFrom kind kd j (s ∷ ts) ≡ firstFrom kind kd (suc j) ts
+    other j s ts e = rw (ne-eqb (kind s) kd (λ q. eqb-false (kindClass s) (kd % kind-classes) e (rw q refl)))
+
+-- The next of a kind after the i-th is not before the first of its class.
+pub kind-after : (kd k i : ℕ) (ss : List (List ℕ)) → k ≤ i → i < nextIn kindClass (kd % kind-classes) k ss
+    → nextIn kind kd (i + 1) ss ≡ nextIn kind kd (nextIn kindClass (kd % kind-classes) k ss) ss
+kind-after kd k i ss l h =
+    let z : k + (i + 1 - k) ≡ i + 1 = omega arith in
+    let a : nextIn kindClass (kd % kind-classes) (i + 1) ss ≡ nextIn kindClass (kd % kind-classes) k ss = rw z at (next-again kindClass (kd % kind-classes) k ss (i + 1 - k) (omega arith)) in
+    rw a at (by-class kd (i + 1) ss)
 
 -- A walk goes on: the record that is tried next comes after the i-th.
 pub after-later : (k : ℕ) (ss : List (List ℕ)) (index : List ℕ) → IndexedFrom k ss index → (along : Bool) (kd i : ℕ) → k ≤ i → i < length ss

@@ -3,24 +3,26 @@
 // of records ends a chain. Nothing else knows where links and heads stand.
 ghost use mathlib.Core.Path.{_≡_};
 ghost use mathlib.Core.List.{[]};
-ghost use Prim.Native.Nat.{_+_, _≤_, _<_};
+ghost use Prim.Native.Nat.{ℕ, _+_, _%_, _≤_, _<_};
 ghost use lib.ListN.{length, getD};
 ghost use Rattle.octets.specs.Octets.{field};
 ghost use Rattle.model.specs.Site as Site;
 ghost use Rattle.model.specs.Site.{records};
 ghost use Rattle.index.specs.Index as Index;
-ghost use Rattle.index.specs.Index.{most-records, buckets, index-size, objectBucket, ruleBucket, factorBucket, bucketOf, nextIn, IndexedFrom};
+ghost use Rattle.index.specs.Index.{most-records, buckets, kind-classes, index-size, kindHead, objectBucket, ruleBucket, factorBucket, bucketOf, nextIn, IndexedFrom};
 use model::numbers::ACCESS_RULE;
 use model::numbers::AUTHENTICATION_FACTOR;
 use model::numbers::MODULUS;
 use model::numbers::ROLE_IDENTIFYING;
 
-// The most records of a site, whose links come first; the buckets, whose heads follow.
+// The most records of a site, whose links come first; the buckets, whose heads follow; the classes of kinds, whose heads come last.
 pub const MOST_RECORDS: usize = 2000;
 
 pub const BUCKETS: usize = 1024;
 
-pub const INDEX_SIZE: usize = 3024;
+const KIND_CLASSES: usize = 8;
+
+pub const INDEX_SIZE: usize = 3032;
 
 // What an index holds before it is built. Its two bytes differ: a fill with equal bytes becomes a call of memset, and so of another library.
 pub const UNBUILT: u16 = 2000;
@@ -134,6 +136,12 @@ fn bucket_of(part: &[u8]) -> usize
     object_bucket(kind, octets::get_u32(part, 4))
 }
 
+fn kind_class(kind: u8) -> usize
+    ensures { λ r. ⌜ (r ≡ kind % kind-classes) × (r < kind-classes) ⌝ }
+{
+    (kind as usize) % KIND_CLASSES
+}
+
 // An index of no record yet: every bucket ends at once.
 pub fn empty(site: &[u8], index: &mut [u16])
     requires { ⌜ (length (records (now site)) ≤ most-records) × (length (now index) ≡ index-size) ⌝ }
@@ -153,9 +161,12 @@ pub fn insert(site: &[u8], index: &mut [u16], i: usize)
     requires { ⌜ i < length (records (now site)) ⌝ }
     ensures { λ _. ⌜ IndexedFrom i (records (now (site .entry))) (now (index .exit)) ⌝ }
 {
-    let head = MOST_RECORDS + bucket_of(record_at(site, i));
+    let part = record_at(site, i);
+    let head = MOST_RECORDS + bucket_of(part);
+    let kind_head = MOST_RECORDS + BUCKETS + kind_class(octets::get_u8(part, 0));
     index[i] = index[head];
     index[head] = i as u16;
+    index[kind_head] = i as u16;
 }
 
 fn wide(x: u16) -> usize
@@ -182,7 +193,6 @@ pub fn next_of(index: &[u16], i: usize) -> usize
 
 // The first record of a kind from a number on.
 fn next_of_kind(site: &[u8], kind: u8, from: usize) -> usize
-    requires { ⌜ from ≤ length (records (now site)) ⌝ }
     ensures { λ r. ⌜ r ≡ nextIn Site.kind kind from (records (now (site .entry))) ⌝ }
 {
     let n = record_count(site);
@@ -193,16 +203,28 @@ fn next_of_kind(site: &[u8], kind: u8, from: usize) -> usize
         }
         i += 1;
     }
-    n
+    i
 }
 
-// The record that a walk for a kind tries after the i-th: the next of its bucket, or the next of the kind.
+// The first record of a kind's class.
+fn first_of_kind(index: &[u16], kind: u8) -> usize
+    requires { ⌜ length (now index) ≡ index-size ⌝ }
+    ensures { λ r. ⌜ r ≡ kindHead (kind % kind-classes) (now (index .entry)) ⌝ }
+{
+    wide(index[MOST_RECORDS + BUCKETS + kind_class(kind)])
+}
+
+// The record that a walk for a kind tries after the i-th: the next of its bucket, or the next of the kind, which may come long after the i-th.
 pub fn after(site: &[u8], index: &[u16], kind: u8, i: usize, along: bool) -> usize
-    requires { ⌜ (length (now index) ≡ index-size) × (i < most-records) × (i < length (records (now site))) ⌝ }
-    ensures { λ r. ⌜ r ≡ Index.after along kind i (records (now (site .entry))) (now (index .entry)) ⌝ }
+    requires { ⌜ (length (now index) ≡ index-size) × (i < most-records) ⌝ }
+    ensures { λ r. ⌜ ((k : ℕ) → k ≤ i → IndexedFrom k (records (now (site .entry))) (now (index .entry)) → r ≡ Index.after along kind i (records (now (site .entry))) (now (index .entry))) ⌝ }
 {
     if along {
         return next_of(index, i);
+    }
+    let first = first_of_kind(index, kind);
+    if i < first {
+        return next_of_kind(site, kind, first);
     }
     next_of_kind(site, kind, i + 1)
 }

@@ -13,13 +13,13 @@ use Rattle.index.proofs.next_of_kind.Statement.{statement}
 use Rattle.index.proofs.next_of_kind.Tie as tie
 
 abbrev Inv-loop : tie.InvT-loop
-Inv-loop site k from n i₀ i = (n ≡ length (records site)) × (i ≤ n) × (nextIn kind k i (records site) ≡ nextIn kind k from (records site))
+Inv-loop site k from n i₀ i = (n ≡ length (records site)) × (nextIn kind k i (records site) ≡ nextIn kind k from (records site))
 
 abbrev μ-loop : tie.MeasureT-loop
 μ-loop site k from n i₀ i = n - i
 
 loop-holds : tie.Need-loop-holds Inv-loop μ-loop
-loop-holds c = (c .record-count .ensures, omega (arith, c .record-count .ensures, c .before .before .pre), refl)
+loop-holds c = (c .record-count .ensures, refl)
 
 returns : tie.Need-returns Inv-loop μ-loop
 returns c =
@@ -27,7 +27,7 @@ returns c =
     let a = l .before .before .before .args in
     let ss = records (now (a .site)) in
     let h : l .loop .i < length ss = omega arith in
-    rw (← l .loop .inv .2, next-turn kind (a .kind) (l .loop .i) ss h, ← c .before .before .record-at .ensures .0, ← c .before .get-u8 .ensures, eq-eqb _ _ (c .if1 .taken))
+    rw (← l .loop .inv .1, next-turn kind (a .kind) (l .loop .i) ss h, ← c .before .before .record-at .ensures .0, ← c .before .get-u8 .ensures, eq-eqb _ _ (c .if1 .taken))
 
 loop-again : tie.Need-loop-again Inv-loop μ-loop
 loop-again c =
@@ -36,15 +36,13 @@ loop-again c =
     let ss = records (now (a .site)) in
     let h : l .loop .i < length ss = omega arith in
     let t = next-turn kind (a .kind) (l .loop .i) ss h in
-    (l .loop .inv .0, omega arith, sym (rw (← c .before .before .record-at .ensures .0, ← c .before .get-u8 .ensures, ne-eqb _ _ (c .if1 .left)) at t) ∙ l .loop .inv .2)
+    (l .loop .inv .0, sym (rw (← c .before .before .record-at .ensures .0, ← c .before .get-u8 .ensures, ne-eqb _ _ (c .if1 .left)) at t) ∙ l .loop .inv .1)
 
 returns-2 : tie.Need-returns-2 Inv-loop μ-loop
 returns-2 c =
     let l = c .before in
     let a = l .before .before .before .args in
-    let ss = records (now (a .site)) in
-    let e : l .loop .i ≡ length ss = omega arith in
-    l .loop .inv .0 ∙ sym e ∙ sym (next-end kind (a .kind) (l .loop .i) ss (omega arith)) ∙ l .loop .inv .2
+    sym (next-end kind (a .kind) (l .loop .i) (records (now (a .site))) (omega arith)) ∙ l .loop .inv .1
 
 pub next-of-kind-spec : {M : Type 1} → statement M
 next-of-kind-spec =

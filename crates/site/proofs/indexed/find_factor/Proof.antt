@@ -45,14 +45,14 @@ returns c =
 after-requires : tie.Need-after-requires Inv-loop μ-loop
 after-requires c κs =
     let x = c .before .before .before .before .before .before .before .before .before .before .pre in
-    (x .size, omega (arith, x .few), omega arith)
+    (x .size, omega (arith, x .few))
 
 loop-less : tie.Need-loop-less Inv-loop μ-loop
 loop-less c =
     let l = c .before .before .before .before .before in
     let s = l .before .before .before .before .before .before in
     let h : l .loop .i < length (records (now (s .args .site))) = omega arith in
-    omega (arith, c .after .ensures, after-later 0 (records (now (s .args .site))) (now (s .args .index)) (s .pre) (ltb (l .loop .links) 8) authentication-factor (l .loop .i) (omega arith) h)
+    omega (arith, c .after .ensures 0 (omega arith) (s .pre), after-later 0 (records (now (s .args .site))) (now (s .args .index)) (s .pre) (ltb (l .loop .links) 8) authentication-factor (l .loop .i) (omega arith) h)
 
 loop-again : tie.Need-loop-again Inv-loop μ-loop
 loop-again c =
@@ -64,9 +64,9 @@ loop-again c =
     let h : l .loop .i < length ss = omega arith in
     let n = rw (c .before .before .is-fitting .ensures, c .before .before .before .record-at .ensures .0) at (c .before .if1 .left) in (
       l .loop .inv .0,
-      omega (arith, c .after .ensures, after-later 0 ss (now (a .index)) (s .pre) (ltb (l .loop .links) 8) authentication-factor (l .loop .i) (omega arith) h),
+      omega (arith, c .after .ensures 0 (omega arith) (s .pre), after-later 0 ss (now (a .index)) (s .pre) (ltb (l .loop .links) 8) authentication-factor (l .loop .i) (omega arith) h),
       walk-past (finds q) q (find-passes q) ss (presentedBucket (a .p)) (fits-bucket (a .p)) 0 (now (a .index)) (s .pre) authentication-factor (fits-kind (a .p)) (ltb (l .loop .links) 8) (ltb (l .loop .links + 1) 8)
-          (l .loop .i) (c .after .result) (fewer-links (l .loop .links) 8) h (l .loop .inv .2) n (c .after .ensures),
+          (l .loop .i) (c .after .result) (fewer-links (l .loop .links) 8) h (l .loop .inv .2) n (c .after .ensures 0 (omega arith) (s .pre)),
     )
 
 returns-2 : tie.Need-returns-2 Inv-loop μ-loop

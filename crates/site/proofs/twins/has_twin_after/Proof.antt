@@ -57,14 +57,14 @@ returns-2 c =
 after-requires : tie.Need-after-requires Inv-loop μ-loop
 after-requires c κs =
     let x = c .before .before .before .before .before .before .before .before .before .before .before .before .pre .0 in
-    (x .size, omega (arith, x .few), omega arith)
+    (x .size, omega (arith, x .few))
 
 loop-less : tie.Need-loop-less Inv-loop μ-loop
 loop-less c =
     let l = c .before .before .before .before .before in
     let s = l .before .before .before .before .before .before .before .before in
     let h : l .loop .j < length (records (now (s .args .site))) = omega arith in
-    omega (arith, c .after .ensures, after-later (s .args .i) (records (now (s .args .site))) (now (s .args .index)) (s .pre .0) (ltb (l .loop .links) 8) (l .before .before .before .get-u8 .result) (l .loop .j) (l .loop .inv .2 .low) h)
+    omega (arith, c .after .ensures (s .args .i) (l .loop .inv .2 .low) (s .pre .0), after-later (s .args .i) (records (now (s .args .site))) (now (s .args .index)) (s .pre .0) (ltb (l .loop .links) 8) (l .before .before .before .get-u8 .result) (l .loop .j) (l .loop .inv .2 .low) h)
 
 loop-again : tie.Need-loop-again Inv-loop μ-loop
 loop-again c =
@@ -77,9 +77,9 @@ loop-again c =
     let h : l .loop .j < length ss = omega arith in
     let n = rw (c .before .before .twins .ensures, l .before .before .before .before .record-at .ensures .0, c .before .before .before .record-at2 .ensures .0) at (c .before .if2 .left) in (
       l .loop .inv .0,
-      omega (arith, c .after .ensures, after-later (a .i) ss (now (a .index)) (st .pre .0) (ltb (l .loop .links) 8) (k .get-u8 .result) (l .loop .j) (l .loop .inv .2 .low) h),
+      omega (arith, c .after .ensures (a .i) (l .loop .inv .2 .low) (st .pre .0), after-later (a .i) ss (now (a .index)) (st .pre .0) (ltb (l .loop .links) 8) (k .get-u8 .result) (l .loop .j) (l .loop .inv .2 .low) h),
       walk-past (anyOf (twins s)) (twins s) (any-passes (twins s)) ss (bucketOf s) (twins-bucket s) (a .i) (now (a .index)) (st .pre .0)
-          (k .get-u8 .result) (λ t h. twins-kind s t h ∙ sym (k .get-u8 .ensures ∙ ap kind (k .before .record-at .ensures .0))) (ltb (l .loop .links) 8) (ltb (l .loop .links + 1) 8) (l .loop .j) (c .after .result) (fewer-links (l .loop .links) 8) h (l .loop .inv .2) n (c .after .ensures),
+          (k .get-u8 .result) (λ t h. twins-kind s t h ∙ sym (k .get-u8 .ensures ∙ ap kind (k .before .record-at .ensures .0))) (ltb (l .loop .links) 8) (ltb (l .loop .links + 1) 8) (l .loop .j) (c .after .result) (fewer-links (l .loop .links) 8) h (l .loop .inv .2) n (c .after .ensures (a .i) (l .loop .inv .2 .low) (st .pre .0)),
     )
 
 returns-3 : tie.Need-returns-3 Inv-loop μ-loop
