@@ -11,8 +11,8 @@ use borrow.Author.Tests.{eqb-true, eqb-false}
 use Rattle.octets.proofs.Groups.{length-groups}
 use Rattle.model.specs.Words.{if_then_else_}
 use Rattle.model.specs.Site.{records}
-use Rattle.index.specs.Index.{most-records, buckets, kind-classes, index-size, bucketOf, kindClass, nextIn, head, kindHead, link, IndexedFrom}
-use Rattle.index.proofs.Walks.{next-turn, next-end}
+use Rattle.index.specs.Index.{most-records, buckets, kind-classes, index-size, bucketOf, kindClass, nextIn, head, kindHead, kindLast, link, IndexedFrom}
+use Rattle.index.proofs.Walks.{next-high, next-turn, next-end}
 
 -- There are as many records as whole groups of 32 bytes.
 pub length-records : (site : List ℕ) → length (records site) ≡ length site / 32
@@ -42,6 +42,7 @@ emptied ss index size few h =
       few = few;
       heads = λ b l. h b (omega arith) ∙ sym (next-end bucketOf b (length ss) ss (omega arith));
       kinds = kinds;
+      lasts = λ c l m. absurd (omega (arith, kinds c l, next-end kindClass c (length ss) ss (omega arith)));
       links = λ i l m. absurd (omega arith);
     }
   where
@@ -63,7 +64,8 @@ headed class o i ss index h b same fits a x = go (eqb b a) refl
 
 -- One record more: its link is its bucket's head, and it becomes the head, also of its kind's class.
 module _ (i : ℕ) (ss : List (List ℕ)) (index : List ℕ) (h : i < length ss) (b : ℕ) (same : b ≡ bucketOf (getD ss i [])) (fits : b < buckets)
-    (d : ℕ) (also : d ≡ kindClass (getD ss i [])) (small : d < kind-classes) (x : IndexedFrom (i + 1) ss index) where
+    (d : ℕ) (also : d ≡ kindClass (getD ss i [])) (small : d < kind-classes) (x : IndexedFrom (i + 1) ss index)
+    (last : ℕ) (kept : last ≡ if eqb (kindHead d index) (length ss) then i else kindLast d index) where
   abbrev one : List ℕ
   one = set index i (head b index)
 
@@ -73,33 +75,75 @@ module _ (i : ℕ) (ss : List (List ℕ)) (index : List ℕ) (h : i < length ss)
   abbrev three : List ℕ
   three = set two (most-records + buckets + d) i
 
-  heads : (a : ℕ) → a < buckets → head a three ≡ nextIn bucketOf a i ss
+  abbrev four : List ℕ
+  four = set three (most-records + buckets + d + kind-classes) last
+
+  heads : (a : ℕ) → a < buckets → head a four ≡ nextIn bucketOf a i ss
   heads a l =
       let p : head a one ≡ nextIn bucketOf a (i + 1) ss = getD-set-other index i (most-records + a) (head b index) 0 (λ q. omega (arith, x .few)) ∙ x .heads a l in
-      getD-set-other two (most-records + buckets + d) (most-records + a) i 0 (λ q. omega arith)
+      getD-set-other three (most-records + buckets + d + kind-classes) (most-records + a) last 0 (λ q. omega arith)
+      ∙ getD-set-other two (most-records + buckets + d) (most-records + a) i 0 (λ q. omega arith)
       ∙ headed bucketOf most-records i ss one h b same (simp length-set (omega (arith, x .size))) a p
 
-  kinds : (a : ℕ) → a < kind-classes → kindHead a three ≡ nextIn kindClass a i ss
+  kinds : (a : ℕ) → a < kind-classes → kindHead a four ≡ nextIn kindClass a i ss
   kinds a l =
       let p : kindHead a one ≡ nextIn kindClass a (i + 1) ss = getD-set-other index i (most-records + buckets + a) (head b index) 0 (λ q. omega (arith, x .few)) ∙ x .kinds a l in
-      headed kindClass (most-records + buckets) i ss two h d also (simp (length-set, length-set) (omega (arith, x .size))) a
+      getD-set-other three (most-records + buckets + d + kind-classes) (most-records + buckets + a) last 0 (λ q. omega arith)
+      ∙ headed kindClass (most-records + buckets) i ss two h d also (simp (length-set, length-set) (omega (arith, x .size))) a
       (getD-set-other one (most-records + b) (most-records + buckets + a) i 0 (λ q. omega arith) ∙ p)
 
-  away : (j : ℕ) → j < length ss → link j three ≡ link j one
-  away j m =
-      getD-set-other two (most-records + buckets + d) j i 0 (λ q. omega (arith, x .few)) ∙ getD-set-other one (most-records + b) j i 0 (λ q. omega (arith, x .few))
+  lasts : (c : ℕ) → c < kind-classes → kindHead c four < length ss → nextIn kindClass c (kindLast c four + 1) ss ≡ length ss
+  lasts c l m = go (eqb d c) refl
+    where
+      before : kindHead c index ≡ nextIn kindClass c (i + 1) ss
+      before = x .kinds c l
 
-  links : (j : ℕ) → i ≤ j → j < length ss → link j three ≡ nextIn bucketOf (bucketOf (getD ss j [])) (j + 1) ss
+      old : (d ≡ c → ⊥) → kindHead c four ≡ kindHead c index
+      old n =
+          getD-set-other three (most-records + buckets + d + kind-classes) (most-records + buckets + c) last 0 (λ q. omega arith)
+          ∙ getD-set-other two (most-records + buckets + d) (most-records + buckets + c) i 0 (λ q. n (omega arith))
+          ∙ getD-set-other one (most-records + b) (most-records + buckets + c) i 0 (λ q. omega arith)
+          ∙ getD-set-other index i (most-records + buckets + c) (head b index) 0 (λ q. omega (arith, x .few))
+
+      stays : (d ≡ c → ⊥) → kindLast c four ≡ kindLast c index
+      stays n =
+          getD-set-other three (most-records + buckets + d + kind-classes) (most-records + buckets + kind-classes + c) last 0 (λ q. n (omega arith))
+          ∙ getD-set-other two (most-records + buckets + d) (most-records + buckets + kind-classes + c) i 0 (λ q. omega arith)
+          ∙ getD-set-other one (most-records + b) (most-records + buckets + kind-classes + c) i 0 (λ q. omega arith)
+          ∙ getD-set-other index i (most-records + buckets + kind-classes + c) (head b index) 0 (λ q. omega (arith, x .few))
+
+      put : kindLast d four ≡ last
+      put =
+          let z : most-records + buckets + kind-classes + d ≡ most-records + buckets + d + kind-classes = omega arith in
+          rw z (getD-set-same three (most-records + buckets + d + kind-classes) last 0 (simp (length-set, length-set, length-set) (omega (arith, x .size))))
+
+      was : (t : Bool) → eqb (kindHead d index) (length ss) ≡ t → nextIn kindClass d ((if t then i else kindLast d index) + 1) ss ≡ length ss
+      was true e = sym (x .kinds d small) ∙ eqb-true (kindHead d index) (length ss) e
+      was false e = x .lasts d small (below (eqb-false (kindHead d index) (length ss) e))
+        where
+          below : (kindHead d index ≡ length ss → ⊥) → kindHead d index < length ss
+          below n = omega (arith, n, x .kinds d small, next-high kindClass d (i + 1) ss (omega arith))
+
+      go : (t : Bool) → eqb d c ≡ t → nextIn kindClass c (kindLast c four + 1) ss ≡ length ss
+      go true e = rw (← eqb-true d c e, put, kept) (was (eqb (kindHead d index) (length ss)) refl)
+      go false e = rw (stays (eqb-false d c e)) (x .lasts c l (rw (old (eqb-false d c e)) at m))
+
+  away : (j : ℕ) → j < length ss → link j four ≡ link j one
+  away j m =
+      getD-set-other three (most-records + buckets + d + kind-classes) j last 0 (λ q. omega (arith, x .few))
+      ∙ getD-set-other two (most-records + buckets + d) j i 0 (λ q. omega (arith, x .few)) ∙ getD-set-other one (most-records + b) j i 0 (λ q. omega (arith, x .few))
+
+  links : (j : ℕ) → i ≤ j → j < length ss → link j four ≡ nextIn bucketOf (bucketOf (getD ss j [])) (j + 1) ss
   links j l m = go (eqb j i) refl
     where
       more : (j ≡ i → ⊥) → i + 1 ≤ j
       more n = omega (arith, n)
 
-      go : (c : Bool) → eqb j i ≡ c → link j three ≡ nextIn bucketOf (bucketOf (getD ss j [])) (j + 1) ss
+      go : (c : Bool) → eqb j i ≡ c → link j four ≡ nextIn bucketOf (bucketOf (getD ss j [])) (j + 1) ss
       go true e =
           let q : j ≡ i = eqb-true j i e in
           rw (q, ← same) (away i h ∙ getD-set-same index i (head b index) 0 (omega (arith, x .few, x .size)) ∙ x .heads b fits)
       go false e = away j m ∙ getD-set-other index i j (head b index) 0 (eqb-false j i e) ∙ x .links j (more (eqb-false j i e)) m
 
-  pub inserted : IndexedFrom i ss three
-  inserted = record { size = simp (length-set, length-set, length-set) (x .size); few = x .few; heads = heads; kinds = kinds; links = links }
+  pub inserted : IndexedFrom i ss four
+  inserted = record { size = simp (length-set, length-set, length-set, length-set) (x .size); few = x .few; heads = heads; kinds = kinds; lasts = lasts; links = links }

@@ -27,26 +27,31 @@ module _ (class : List ℕ → ℕ) where
   -- Where the first record of a class stands.
   record Found (c from : ℕ) (ss : List (List ℕ)) (j : ℕ) : Type 0 where
     low : from ≤ j
+    high : j ≤ from + length ss
     here : j - from < length ss → class (getD ss (j - from) []) ≡ c
 
   found : (c from : ℕ) (ss : List (List ℕ)) → Found c from ss (firstFrom class c from ss)
   unfolding firstFrom
-  found c from [] = record { low = omega arith; here = λ h. absurd (omega arith) }
+  found c from [] = record { low = omega arith; high = omega arith; here = λ h. absurd (omega arith) }
   found c from (s ∷ ss) = go (eqb (class s) c) refl (found c (suc from) ss)
     where
       go : (t : Bool) → eqb (class s) c ≡ t → Found c (suc from) ss (firstFrom class c (suc from) ss) →
           Found c from (s ∷ ss) (if t then from else firstFrom class c (suc from) ss)
       go true e h =
           let d : from - from ≡ 0 = omega arith in
-          record { low = omega arith; here = λ _. rw d (eqb-true (class s) c e) }
+          record { low = omega arith; high = omega arith; here = λ _. rw d (eqb-true (class s) c e) }
       go false e h =
           let d : firstFrom class c (suc from) ss - from ≡ suc (firstFrom class c (suc from) ss - suc from) = omega (arith, h .low) in
-          record { low = omega (arith, h .low); here = λ l. rw d (h .here (omega (arith, h .low))) }
+          record { low = omega (arith, h .low); high = omega (arith, h .high); here = λ l. rw d (h .here (omega (arith, h .low))) }
 
   module _ (c i : ℕ) (ss : List (List ℕ)) where
     pub next-low : i ≤ nextIn class c i ss
     unfolding nextIn
     next-low = found c i (drop i ss) .low
+
+    pub next-high : i ≤ length ss → nextIn class c i ss ≤ length ss
+    unfolding nextIn
+    next-high h = omega (arith, found c i (drop i ss) .high, length-drop i ss)
 
     next-here : nextIn class c i ss < length ss → class (getD ss (nextIn class c i ss) []) ≡ c
     unfolding nextIn
@@ -167,6 +172,14 @@ kind-after kd k i ss l h =
     let z : k + (i + 1 - k) ≡ i + 1 = omega arith in
     let a : nextIn kindClass (kd % kind-classes) (i + 1) ss ≡ nextIn kindClass (kd % kind-classes) k ss = rw z at (next-again kindClass (kd % kind-classes) k ss (i + 1 - k) (omega arith)) in
     rw a at (by-class kd (i + 1) ss)
+
+-- After the last of its class there is none of a kind.
+pub kind-end : (kd last i : ℕ) (ss : List (List ℕ)) → last ≤ i → i < length ss → nextIn kindClass (kd % kind-classes) (last + 1) ss ≡ length ss
+    → nextIn kind kd (i + 1) ss ≡ length ss
+kind-end kd last i ss l h e =
+    let z : last + 1 + (i - last) ≡ i + 1 = omega arith in
+    let a : nextIn kindClass (kd % kind-classes) (i + 1) ss ≡ length ss = rw z at (next-again kindClass (kd % kind-classes) (last + 1) ss (i - last) (omega arith)) ∙ e in
+    rw a at (by-class kd (i + 1) ss) ∙ next-end kind kd (length ss) ss (omega arith)
 
 -- A walk goes on: the record that is tried next comes after the i-th.
 pub after-later : (k : ℕ) (ss : List (List ℕ)) (index : List ℕ) → IndexedFrom k ss index → (along : Bool) (kd i : ℕ) → k ≤ i → i < length ss

@@ -10,8 +10,8 @@ use Rattle.model.specs.Words.{if_then_else_}
 use Rattle.model.specs.Numbers.{access-rule, authentication-factor, role-identifying}
 use Rattle.model.specs.Site.{kind, instance, everywhere, locationKind, location, role, format, records}
 
--- The most records of a site; the buckets; classes of kinds; the numbers of an index: a link for each record, then a head for each bucket and for each
--- class of kinds.
+-- The most records of a site; the buckets; classes of kinds; the numbers of an index: a link for each record, then a head for each bucket, and a head
+-- and a last record for each class of kinds.
 abbrev pub most-records : ℕ
 most-records = 2000
 
@@ -22,7 +22,7 @@ abbrev pub kind-classes : ℕ
 kind-classes = 8
 
 abbrev pub index-size : ℕ
-index-size = 3032
+index-size = 3040
 
 -- Three numbers spread over the buckets, and turned on by a fourth.
 unfoldable pub spread : ℕ → ℕ → ℕ → ℕ → ℕ
@@ -71,12 +71,15 @@ nextIn class c i ss = firstFrom class c i (drop i ss)
 abbrev pub kindClass : List ℕ → ℕ
 kindClass s = kind s % kind-classes
 
--- The number that stands for a bucket, for a class of kinds, and for a record.
+-- The numbers that stand for a bucket, for a class of kinds, and for a record.
 abbrev pub head : ℕ → List ℕ → ℕ
 head b index = getD index (most-records + b) 0
 
 abbrev pub kindHead : ℕ → List ℕ → ℕ
 kindHead c index = getD index (most-records + buckets + c) 0
+
+abbrev pub kindLast : ℕ → List ℕ → ℕ
+kindLast c index = getD index (most-records + buckets + kind-classes + c) 0
 
 abbrev pub link : ℕ → List ℕ → ℕ
 link i index = getD index i 0
@@ -85,13 +88,14 @@ link i index = getD index i 0
 abbrev pub after : Bool → ℕ → ℕ → List (List ℕ) → List ℕ → ℕ
 after along k i ss index = if along then link i index else nextIn kind k (i + 1) ss
 
--- The numbers of an index of the records from the k-th on: the first record of each bucket and of each class of kinds, and the next of each record's
--- bucket. The number of records ends a chain.
+-- The numbers of an index of the records from the k-th on: the first record of each bucket, the first and the last of each class of
+-- kinds, and the next of each record's bucket. The number of records ends a chain.
 pub record IndexedFrom (k : ℕ) (ss : List (List ℕ)) (index : List ℕ) : Type 0 where
   pub size : length index ≡ index-size
   pub few : length ss ≤ most-records
   pub heads : (b : ℕ) → b < buckets → head b index ≡ nextIn bucketOf b k ss
   pub kinds : (c : ℕ) → c < kind-classes → kindHead c index ≡ nextIn kindClass c k ss
+  pub lasts : (c : ℕ) → c < kind-classes → kindHead c index < length ss → nextIn kindClass c (kindLast c index + 1) ss ≡ length ss
   pub links : (i : ℕ) → k ≤ i → i < length ss → link i index ≡ nextIn bucketOf (bucketOf (getD ss i [])) (i + 1) ss
 
 -- The index of a site.

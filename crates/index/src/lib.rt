@@ -4,25 +4,28 @@
 ghost use mathlib.Core.Path.{_≡_};
 ghost use mathlib.Core.List.{[]};
 ghost use Prim.Native.Nat.{ℕ, _+_, _%_, _≤_, _<_};
+ghost use lib.Dec.{eqb};
 ghost use lib.ListN.{length, getD};
+ghost use Rattle.model.specs.Words.{if_then_else_};
 ghost use Rattle.octets.specs.Octets.{field};
 ghost use Rattle.model.specs.Site as Site;
 ghost use Rattle.model.specs.Site.{records};
 ghost use Rattle.index.specs.Index as Index;
-ghost use Rattle.index.specs.Index.{most-records, buckets, kind-classes, index-size, kindHead, objectBucket, ruleBucket, factorBucket, bucketOf, nextIn, IndexedFrom};
+ghost use Rattle.index.specs.Index.{most-records, buckets, kind-classes, index-size, kindHead, kindLast, objectBucket, ruleBucket, factorBucket, bucketOf, nextIn, IndexedFrom};
 use model::numbers::ACCESS_RULE;
 use model::numbers::AUTHENTICATION_FACTOR;
 use model::numbers::MODULUS;
 use model::numbers::ROLE_IDENTIFYING;
 
-// The most records of a site, whose links come first; the buckets, whose heads follow; the classes of kinds, whose heads come last.
+// The most records of a site, whose links come first; the buckets, whose heads follow; the classes of kinds, whose heads and
+// last records come last.
 pub const MOST_RECORDS: usize = 2000;
 
 pub const BUCKETS: usize = 1024;
 
 const KIND_CLASSES: usize = 8;
 
-pub const INDEX_SIZE: usize = 3032;
+pub const INDEX_SIZE: usize = 3040;
 
 // What an index holds before it is built. Its two bytes differ: a fill with equal bytes becomes a call of memset, and so of another library.
 pub const UNBUILT: u16 = 2000;
@@ -155,6 +158,13 @@ pub fn empty(site: &[u8], index: &mut [u16])
     }
 }
 
+// The last record of a class with the i-th in it: the one that was, or the i-th, where the class was empty.
+fn last_after(head: u16, last: u16, end: u16, i: u16) -> u16
+    ensures { λ r. ⌜ r ≡ (if eqb head end then i else last) ⌝ }
+{
+    if head == end { i } else { last }
+}
+
 // The i-th record is put before the later ones of its bucket.
 pub fn insert(site: &[u8], index: &mut [u16], i: usize)
     requires { ⌜ IndexedFrom (i + 1) (records (now site)) (now index) ⌝ }
@@ -164,9 +174,17 @@ pub fn insert(site: &[u8], index: &mut [u16], i: usize)
     let part = record_at(site, i);
     let head = MOST_RECORDS + bucket_of(part);
     let kind_head = MOST_RECORDS + BUCKETS + kind_class(octets::get_u8(part, 0));
+    let kind_last = kind_head + KIND_CLASSES;
+    let last = last_after(
+        index[kind_head],
+        index[kind_last],
+        record_count(site) as u16,
+        i as u16,
+    );
     index[i] = index[head];
     index[head] = i as u16;
     index[kind_head] = i as u16;
+    index[kind_last] = last;
 }
 
 fn wide(x: u16) -> usize
@@ -206,7 +224,7 @@ fn next_of_kind(site: &[u8], kind: u8, from: usize) -> usize
     i
 }
 
-// The first record of a kind's class.
+// The first record of a kind's class, and the last.
 fn first_of_kind(index: &[u16], kind: u8) -> usize
     requires { ⌜ length (now index) ≡ index-size ⌝ }
     ensures { λ r. ⌜ r ≡ kindHead (kind % kind-classes) (now (index .entry)) ⌝ }
@@ -214,9 +232,17 @@ fn first_of_kind(index: &[u16], kind: u8) -> usize
     wide(index[MOST_RECORDS + BUCKETS + kind_class(kind)])
 }
 
-// The record that a walk for a kind tries after the i-th: the next of its bucket, or the next of the kind, which may come long after the i-th.
+fn last_of_kind(index: &[u16], kind: u8) -> usize
+    requires { ⌜ length (now index) ≡ index-size ⌝ }
+    ensures { λ r. ⌜ r ≡ kindLast (kind % kind-classes) (now (index .entry)) ⌝ }
+{
+    wide(index[MOST_RECORDS + BUCKETS + KIND_CLASSES + kind_class(kind)])
+}
+
+// The record that a walk for a kind tries after the i-th: the next of its bucket, or the next of the kind, which is sought only from its first record to
+// its last.
 pub fn after(site: &[u8], index: &[u16], kind: u8, i: usize, along: bool) -> usize
-    requires { ⌜ (length (now index) ≡ index-size) × (i < most-records) ⌝ }
+    requires { ⌜ (length (now index) ≡ index-size) × (i < most-records) × (i < length (records (now site))) ⌝ }
     ensures { λ r. ⌜ ((k : ℕ) → k ≤ i → IndexedFrom k (records (now (site .entry))) (now (index .entry)) → r ≡ Index.after along kind i (records (now (site .entry))) (now (index .entry))) ⌝ }
 {
     if along {
@@ -225,6 +251,9 @@ pub fn after(site: &[u8], index: &[u16], kind: u8, i: usize, along: bool) -> usi
     let first = first_of_kind(index, kind);
     if i < first {
         return next_of_kind(site, kind, first);
+    }
+    if last_of_kind(index, kind) <= i {
+        return record_count(site);
     }
     next_of_kind(site, kind, i + 1)
 }
