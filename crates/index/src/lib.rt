@@ -1,6 +1,6 @@
 // The records of a site by number, and an index of them that a call keeps on its stack. A record falls into a bucket by what it is looked up by. The
-// index has a link for each record, the next record of its bucket in file order, and then a head for each bucket, its first record. The number
-// of records ends a chain. Nothing else knows where links and heads stand.
+// index has a link for each record, the next record of its bucket in file order, then a head for each bucket, its first record, and then the first and
+// the last record of each kind. The number of records ends a chain. Nothing else knows where these stand.
 ghost use mathlib.Core.Path.{_≡_};
 ghost use mathlib.Core.List.{[]};
 ghost use Prim.Native.Nat.{ℕ, _+_, _%_, _≤_, _<_};
