@@ -15,7 +15,7 @@ use Rattle.model.specs.Words.{if_then_else_}
 use Rattle.model.specs.State.{Panel, panel, stateOf, wellFormed}
 use Rattle.model.specs.Entry.{entryOf, entries, answerBytes}
 use Rattle.model.specs.Step.{apply, entryOutcome, after, answers}
-use Rattle.model.specs.Calls.{isWorked, freshReturned, runReturned, runJournal}
+use Rattle.model.specs.Calls.{isWorked, freshReturned, checkState, runReturned, runJournal}
 use Rattle.model.specs.Lists.{Run, runOn, answersIn, firstOf}
 use Rattle.model.proofs.Laws.{or-left, or-right}
 use Rattle.model.proofs.Runs.{passed-check, worked-through, answers-back}
@@ -32,24 +32,22 @@ pub record RunAccepted (site state : List ℕ) (r : Run) : Type 0 where
   pub not-long : length (r .journal) ≤ 65520
   pub answers-length : length (r .answers) ≡ length (r .journal) / 24 * 16
 
--- The first check of a run hands on what the fresh call returns.
-fresh-first : (site state : List ℕ) (next : Returned) →
-    (if not (isWorked (freshReturned site state)) then freshReturned site state else next) ≡ WorkedThrough →
-    (isWorked (freshReturned site state) ≡ true) × (next ≡ WorkedThrough)
+-- A check that is made first hands on what it returns.
+first-passed : (first next : Returned) → (if not (isWorked first) then first else next) ≡ WorkedThrough → (isWorked first ≡ true) × (next ≡ WorkedThrough)
 unfolding isWorked
-fresh-first site state next h = go (isWorked (freshReturned site state)) refl h
+first-passed first next h = go (isWorked first) refl h
   where
-    go : (c : Bool) → isWorked (freshReturned site state) ≡ c → (if not c then freshReturned site state else next) ≡ WorkedThrough →
-        (isWorked (freshReturned site state) ≡ true) × (next ≡ WorkedThrough)
+    go : (c : Bool) → isWorked first ≡ c → (if not c then first else next) ≡ WorkedThrough → (isWorked first ≡ true) × (next ≡ WorkedThrough)
     go true w h = (w, h)
     go false w h = let z : true ≡ false = rw h at w in (cc, cc)
 
 pub run-accepted : (site state : List ℕ) (r : Run) → isWorked (runOn site state r .returned) ≡ true → RunAccepted site state r
-unfolding runOn runJournal runReturned isWorked
+unfolding runOn runJournal runReturned checkState isWorked
 run-accepted site state r w =
-    let f = fresh-first site state _ (worked-through (runReturned site state (r .journal) (r .answers)) w) in
+    let s = first-passed (checkState site state) _ (worked-through (runReturned site state (r .journal) (r .answers)) w) in
+    let f = first-passed (freshReturned site state) _ (worked-through (checkState site state) (s .0)) in
     let g = passed-check (not (wellFormed site state)) StateForm _ refl (f .1) in
-    let j = passed-check (not (eqb (length (r .journal) % 24) 0) || ltb 65520 (length (r .journal))) JournalLength _ refl (g .1) in
+    let j = passed-check (not (eqb (length (r .journal) % 24) 0) || ltb 65520 (length (r .journal))) JournalLength _ refl (s .1) in
     let a = passed-check (not (eqb (length (r .answers)) (length (r .journal) / 24 * 16))) AnswersLength _ refl (j .1) in
     record {
       fresh-worked = f .0;
@@ -61,9 +59,9 @@ run-accepted site state r w =
 
 -- And what passes these is worked.
 pub accepted-run : (site state : List ℕ) (r : Run) → RunAccepted site state r → isWorked (runOn site state r .returned) ≡ true
-unfolding runOn runJournal runReturned
+unfolding runOn runJournal runReturned checkState isWorked
 accepted-run site state r a =
-    rw (a .fresh-worked, a .well, a .whole-entries, le-ltb 65520 (length (r .journal)) (a .not-long), eq-eqb (length (r .answers)) (length (r .journal) / 24 * 16) (a .answers-length)) (unfold isWorked in refl)
+    rw (a .fresh-worked, a .well, a .whole-entries, le-ltb 65520 (length (r .journal)) (a .not-long), eq-eqb (length (r .answers)) (length (r .journal) / 24 * 16) (a .answers-length))
 
 -- ── the first i entries
 

@@ -11,7 +11,7 @@ use Rattle.model.specs.Numbers as n
 use Rattle.model.specs.Site.{records}
 use Rattle.model.specs.State.{panel, wellFormed}
 use Rattle.model.specs.Entry.{entryOf}
-use Rattle.model.specs.Calls.{isWorked, checkSite, freshReturned, freshState, runReturned, runJournal}
+use Rattle.model.specs.Calls.{isWorked, checkSite, freshReturned, freshState, checkState, runReturned, runJournal}
 use Rattle.model.specs.Lists.{Run, runOn, stateAfter, returns, History, begun, ended}
 use Rattle.model.specs.Demands.{notStateForm, WellFormed}
 use Rattle.model.proofs.Flat.{sites-panel}
@@ -24,7 +24,7 @@ module _ (site : List ℕ) (accept : checkSite site ≡ WorkedThrough) (state : 
     (well : wellFormed site state ≡ true) (r : Run) where
   -- A run on a well-formed state does not return 6.
   run-returns : notStateForm (runOn site state r .returned) ≡ true
-  unfolding runOn runJournal runReturned freshReturned isWorked
+  unfolding runOn runJournal runReturned checkState freshReturned isWorked
   run-returns =
       rw (accept, long, eq-eqb (length site) (length site) refl, well)
       (go (not (eqb (length (r .journal) % n.entry-size) 0) || ltb n.largest-journal (length (r .journal)))

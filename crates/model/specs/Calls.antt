@@ -50,6 +50,10 @@ pub record FreshResult : Type 0 where
   pub returned : Returned
   pub state : List ℕ
 
+-- The same as a record of its parts.
+abbrev pub freshResult : Returned → List ℕ → FreshResult
+freshResult returned state = record { returned = returned; state = state }
+
 -- Refusals 1 to 5 in their order.
 unfoldable pub freshReturned : List ℕ → List ℕ → Returned
 freshReturned site state =
@@ -60,12 +64,18 @@ freshReturned site state =
 -- The call: the fresh state, or the state as it was.
 unfoldable pub freshState : List ℕ → List ℕ → FreshResult
 freshState site state =
-    record {
-      returned = freshReturned site state;
-      state = if isWorked (freshReturned site state) then fresh site else state;
-    }
+    freshResult (freshReturned site state) (if isWorked (freshReturned site state) then fresh site else state)
 
--- ── the journal run: "6 state not well formed; 10 journal not a multiple of 24, or above 65,520; 11 answers not 16 bytes per entry"
+-- ── the state check: "6 state not well formed"
+
+-- Refusals 1 to 6 in their order; site and state are lent to be read alone.
+unfoldable pub checkState : List ℕ → List ℕ → Returned
+checkState site state =
+    if not (isWorked (freshReturned site state)) then freshReturned site state else
+    if not (wellFormed site state) then StateForm else
+    WorkedThrough
+
+-- ── the journal run: "10 journal not a multiple of 24, or above 65,520; 11 answers not 16 bytes per entry"
 
 -- What the call gives: what it returns, and the later contents of state and answers.
 pub record RunResult : Type 0 where
@@ -73,11 +83,14 @@ pub record RunResult : Type 0 where
   pub state : List ℕ
   pub answers : List ℕ
 
+-- The same as a record of its parts.
+abbrev pub runResult : Returned → List ℕ → List ℕ → RunResult
+runResult returned state answers = record { returned = returned; state = state; answers = answers }
+
 -- Refusals 1 to 6, 10, 11 in their order.
 unfoldable pub runReturned : List ℕ → List ℕ → List ℕ → List ℕ → Returned
 runReturned site state journal answered =
-    if not (isWorked (freshReturned site state)) then freshReturned site state else
-    if not (wellFormed site state) then StateForm else
+    if not (isWorked (checkState site state)) then checkState site state else
     if not (eqb (length journal % n.entry-size) 0) || ltb n.largest-journal (length journal) then JournalLength else
     if not (eqb (length answered) (length journal / n.entry-size * n.answer-size)) then AnswersLength else
     WorkedThrough
