@@ -8,20 +8,21 @@ use borrow.Author.Tests.{eqb-true, not-true}
 use Rattle.model.specs.Words.{if_then_else_, all, missing}
 use Rattle.model.specs.Numbers as n
 use Rattle.model.specs.Numbers.{NONE}
-use Rattle.model.specs.Site.{kind, instance, pointOf, isAt, findIn}
+use Rattle.model.specs.Site.{credentialId, kind, instance, pointOf, isAt, findIn}
 use Rattle.model.specs.State.{Pair, Panel, sites, find, store, write, count, pointStateOf, freshPoint}
 use Rattle.model.specs.Entry.{operationOf, objectKind, inForm}
 use Rattle.model.specs.Checks.{waiting, confirming, factorFor, credentialRead}
-use Rattle.model.specs.Effects.{named, pointAfter, answerTo, outcomeOf}
-use Rattle.model.specs.Step.{noPoint, noCredential, noCount, unchanged, refuse, factorRead, numberRead, viewOf, factorOutcome, countOutcome, adjusted, adjustOutcome, disableOutcome, locks, serviceAfter, serviceOutcome, workedOutcome, outcomeAs, entryOutcome, apply}
+use Rattle.model.specs.Effects.{named, pointAfter, answerWith, outcomeWith, outcomeOf}
+use Rattle.model.specs.Step.{noPoint, noCredential, noCount, unchanged, refuse, factorRead, numberRead, situationOf, factorOutcome, countOutcome, adjusted, adjustOutcome, disableOutcome, locks, serviceAfter, serviceOutcome, workedOutcome, outcomeAs, entryOutcome, apply}
 use Rattle.model.specs.Part.{Part, member, holds, belongs, onSide, pointInside, inside, identified, identifiedInside, readInsideAs}
+use Rattle.model.specs.declared.CredentialId.{CredentialId}
 use Rattle.model.specs.declared.Entry.{Entry}
 use Rattle.model.specs.declared.Answer.{Answer}
-use Rattle.model.specs.declared.View.{View}
+use Rattle.model.specs.declared.Situation.{Situation}
 use Rattle.model.specs.declared.Outcome.{Outcome}
 use Rattle.model.specs.declared.Operation.{Operation}
 use Rattle.model.specs.declared.Operation.the-variants.{Factor, SetCount, AdjustCount, SetDisable, SetService, Unknown}
-use Rattle.model.proofs.Laws.{and-left, and-right, only, only-store, only-store-out, all-found, found}
+use Rattle.model.proofs.Laws.{if-holds, and-left, and-right, only, only-store, only-store-out, all-found, found}
 
 -- Two Bools that are compared equal are equal.
 pub beq-is : (m b : Bool) → Bool·beq m b ≡ true → m ≡ b
@@ -39,13 +40,9 @@ instance-at k i s h = eqb-true (instance s) i (and-right (eqb (kind s) k) _ h)
 
 -- A factor read at a point that is there is not refused.
 factor-refusal : (ps : Panel) (e : Entry) (x : Pair) → factorOutcome ps e x .answer .refusal ≡ n.not-refused
-unfolding factorOutcome unchanged outcomeOf answerTo
-factor-refusal ps e x = go (pointOf (x .0) .«out_of_service») (unchanged _) (outcomeOf _ e _) refl refl
-  where
-    go : (c : Bool) (o u : Outcome) → o .answer .refusal ≡ n.not-refused → u .answer .refusal ≡ n.not-refused →
-        (if c then o else u) .answer .refusal ≡ n.not-refused
-    go true o u h g = h
-    go false o u h g = g
+unfolding factorOutcome unchanged outcomeOf outcomeWith answerWith
+factor-refusal ps e x =
+    if-holds (λ (o : Outcome). o .answer .refusal ≡ n.not-refused) (pointOf (x .0) .«out_of_service») (unchanged _) (outcomeOf _ e _) refl refl
 
 module _ (P : Part) where
   -- ── references
@@ -71,11 +68,6 @@ module _ (P : Part) where
   none-side k side = refl
 
   -- Whichever of two references is taken, it is on the side that both are on.
-  side-if : (c : Bool) (k i j : ℕ) (side : Bool) → onSide P k i side ≡ true → onSide P k j side ≡ true →
-      onSide P k (if c then i else j) side ≡ true
-  side-if true k i j side h g = h
-  side-if false k i j side h g = g
-
   -- The part holds the records of a kind and instance where it has that object.
   pub holds-at : (k i : ℕ) (s : List ℕ) → isAt k i s ≡ true → holds P s ≡ member P k i
   unfolding holds
@@ -113,12 +105,12 @@ module _ (P : Part) where
 
   -- All that an outcome writes is on one side, and the point that it writes waits for NONE or a credential on the point's side.
   pub record Sided (o : Outcome) (side : Bool) : Type 0 where
-    pub point : onSide P n.access-point (o .point .instance) side ≡ true
-    pub credential : onSide P n.access-credential (o .credential .instance) side ≡ true
-    pub «zone_to» : onSide P n.access-zone (o .«zone_to» .instance) side ≡ true
-    pub «zone_from» : onSide P n.access-zone (o .«zone_from» .instance) side ≡ true
+    pub point : onSide P n.access-point (o .point .instance .0) side ≡ true
+    pub credential : onSide P n.access-credential (o .credential .instance .0) side ≡ true
+    pub «zone_to» : onSide P n.access-zone (o .«zone_to» .instance .0) side ≡ true
+    pub «zone_from» : onSide P n.access-zone (o .«zone_from» .instance .0) side ≡ true
     pub waits :
-        onSide P n.access-credential (o .point .state .«waiting_credential») (member P n.access-point (o .point .instance)) ≡ true
+        onSide P n.access-credential (o .point .state .«waiting_credential» .0) (member P n.access-point (o .point .instance .0)) ≡ true
 
   -- An outcome outside the part leaves the part's records as they are.
   pub apply-out : (o : Outcome) (ps : Panel) → Sided o false → only (holds P) (apply o ps) ≡ only (holds P) ps
@@ -133,7 +125,7 @@ module _ (P : Part) where
   unfoldable pub waitInside : Pair → Bool
   waitInside x =
       not (eqb (kind (x .0)) n.access-point)
-      || onSide P n.access-credential (pointStateOf (x .1) .«waiting_credential») (holds P (x .0))
+      || onSide P n.access-credential (pointStateOf (x .1) .«waiting_credential» .0) (holds P (x .0))
 
   -- A site record names nothing across the border, and its state record no credential across it to wait for.
   unfoldable pub pairInside : Pair → Bool
@@ -141,9 +133,9 @@ module _ (P : Part) where
 
   -- The same of the point of an instance: its zones and the credential that it waits for.
   pub record PointInside (i : ℕ) (x : Pair) : Type 0 where
-    pub «zone_to» : onSide P n.access-zone (pointOf (x .0) .«zone_to») (member P n.access-point i) ≡ true
-    pub «zone_from» : onSide P n.access-zone (pointOf (x .0) .«zone_from») (member P n.access-point i) ≡ true
-    pub waits : onSide P n.access-credential (pointStateOf (x .1) .«waiting_credential») (member P n.access-point i) ≡ true
+    pub «zone_to» : onSide P n.access-zone (pointOf (x .0) .«zone_to» .0) (member P n.access-point i) ≡ true
+    pub «zone_from» : onSide P n.access-zone (pointOf (x .0) .«zone_from» .0) (member P n.access-point i) ≡ true
+    pub waits : onSide P n.access-credential (pointStateOf (x .1) .«waiting_credential» .0) (member P n.access-point i) ≡ true
 
   -- A point whose records are inside.
   pub point-inside : (i : ℕ) (x : Pair) → isAt n.access-point i (x .0) ≡ true → pairInside x ≡ true → PointInside i x
@@ -153,8 +145,8 @@ module _ (P : Part) where
       let m = holds-at n.access-point i (x .0) a in
       let f = rw (k, m) at (and-left (inside P (x .0)) (waitInside x) h) in
       record {
-        «zone_to» = and-left _ (onSide P n.access-zone (pointOf (x .0) .«zone_from») (member P n.access-point i)) f;
-        «zone_from» = and-right (onSide P n.access-zone (pointOf (x .0) .«zone_to») (member P n.access-point i)) _ f;
+        «zone_to» = and-left _ (onSide P n.access-zone (pointOf (x .0) .«zone_from» .0) (member P n.access-point i)) f;
+        «zone_from» = and-right (onSide P n.access-zone (pointOf (x .0) .«zone_to» .0) (member P n.access-point i)) _ f;
         waits = rw (k, m) at (and-right (inside P (x .0)) (waitInside x) h);
       }
 
@@ -165,17 +157,12 @@ module _ (P : Part) where
   unfolding onSide unchanged noPoint noCredential noCount freshPoint
   sided-unchanged a side = record { point = refl; credential = refl; «zone_to» = refl; «zone_from» = refl; waits = refl }
 
-  -- Whichever of two outcomes is taken, it is on the side that both are on.
-  sided-if : (c : Bool) (o u : Outcome) (side : Bool) → Sided o side → Sided u side → Sided (if c then o else u) side
-  sided-if true o u side h g = h
-  sided-if false o u side h g = g
-
   -- The credential of a factor read, waited for or identified, is on the point's side.
-  pub number-side : (c : ℕ) (e : Entry) (ss : List (List ℕ)) →
-      onSide P n.access-credential c (member P n.access-point (e .instance)) ≡ true → identifiedInside P ss e ≡ true →
-      onSide P n.access-credential (credentialRead c (factorFor c e ss)) (member P n.access-point (e .instance)) ≡ true
+  pub number-side : (c : CredentialId) (e : Entry) (ss : List (List ℕ)) →
+      onSide P n.access-credential (c .0) (member P n.access-point (e .instance)) ≡ true → identifiedInside P ss e ≡ true →
+      onSide P n.access-credential (credentialRead c (factorFor c e ss) .0) (member P n.access-point (e .instance)) ≡ true
   unfolding credentialRead factorFor identified identifiedInside
-  number-side c e ss h g = go (eqb c NONE)
+  number-side c e ss h g = go (eqb (c .0) NONE)
     where
       side : Bool
       side = member P n.access-point (e .instance)
@@ -187,41 +174,44 @@ module _ (P : Part) where
 
       go : (d : Bool) →
           onSide P n.access-credential
-          (if not d then c else
-          if missing (if d then identified ss e else findIn (confirming c (e .argument) (e .value)) ss) then NONE else
-          instance (if d then identified ss e else findIn (confirming c (e .argument) (e .value)) ss))
+          ((if not d then c else
+          credentialId (if missing (if d then identified ss e else findIn (confirming c (e .argument) (e .value)) ss) then NONE else
+          instance (if d then identified ss e else findIn (confirming c (e .argument) (e .value)) ss))) .0)
           side
           ≡ true
       go true = matched (identified ss e) g
       go false = h
 
   -- The outcome of a factor read, at any view whose references are on the point's side.
-  sided-outcome : (v : View) (e : Entry) (x : ℕ) →
-      onSide P n.access-credential (v .number) (member P n.access-point (e .instance)) ≡ true →
-      onSide P n.access-credential (v .«point_state» .«waiting_credential») (member P n.access-point (e .instance)) ≡ true →
-      onSide P n.access-zone (v .point .«zone_to») (member P n.access-point (e .instance)) ≡ true →
-      onSide P n.access-zone (v .point .«zone_from») (member P n.access-point (e .instance)) ≡ true →
+  sided-outcome : (v : Situation) (e : Entry) (x : ℕ) →
+      onSide P n.access-credential (v .number .0) (member P n.access-point (e .instance)) ≡ true →
+      onSide P n.access-credential (v .«point_state» .«waiting_credential» .0) (member P n.access-point (e .instance)) ≡ true →
+      onSide P n.access-zone (v .point .«zone_to» .0) (member P n.access-point (e .instance)) ≡ true →
+      onSide P n.access-zone (v .point .«zone_from» .0) (member P n.access-point (e .instance)) ≡ true →
       Sided (outcomeOf v e x) (member P n.access-point (e .instance))
-  unfolding outcomeOf named pointAfter
+  unfolding outcomeOf outcomeWith named pointAfter
   sided-outcome v e x number waits to from =
       record {
         point = own-side n.access-point (e .instance);
         credential =
-            side-if (not (waiting v) && (eqb x n.denied-lockout || eqb x n.denied-authentication-factor-error))
-            n.access-credential NONE (v .number) _ (none-side n.access-credential _) number;
+            if-holds credential-here (not (waiting v) && (eqb x n.denied-lockout || eqb x n.denied-authentication-factor-error))
+            (credentialId NONE) (v .number) (none-side n.access-credential _) number;
         «zone_to» = to;
         «zone_from» = from;
         waits =
-            side-if (eqb x n.no-event) n.access-credential _ _ _ number
-            (side-if (eqb x n.denied-lockout) n.access-credential _ NONE _ waits (none-side n.access-credential _));
+            if-holds credential-here (eqb x n.no-event) (v .number) _ number
+            (if-holds credential-here (eqb x n.denied-lockout) (v .«point_state» .«waiting_credential») (credentialId NONE) waits (none-side n.access-credential _));
       }
+    where
+      credential-here : CredentialId → Type 0
+      credential-here c = onSide P n.access-credential (c .0) (member P n.access-point (e .instance)) ≡ true
 
   -- The outcome of a factor read at the point x.
   sided-factor : (ps : Panel) (e : Entry) (x : Pair) → PointInside (e .instance) x → identifiedInside P (sites ps) e ≡ true →
       Sided (factorOutcome ps e x) (member P n.access-point (e .instance))
-  unfolding factorOutcome viewOf numberRead factorRead
+  unfolding factorOutcome situationOf numberRead factorRead
   sided-factor ps e x h g =
-      sided-if (pointOf (x .0) .«out_of_service») (unchanged _) (outcomeOf _ e _) _ (sided-unchanged _ _)
+      if-holds (λ o. Sided o (member P n.access-point (e .instance))) (pointOf (x .0) .«out_of_service») (unchanged _) (outcomeOf _ e _) (sided-unchanged _ _)
       (sided-outcome _ e _ (number-side (pointStateOf (x .1) .«waiting_credential») e (sites ps) (h .waits) g)
       (h .waits) (h .«zone_to») (h .«zone_from»))
 
@@ -238,7 +228,7 @@ module _ (P : Part) where
   sided-worked Factor ps e x a h g = sided-factor ps e x (point-inside (e .instance) x a h) g
   sided-worked SetCount ps e x a h g = sided-count e (e .amount)
   sided-worked AdjustCount ps e x a h g =
-      sided-if (ltb n.largest-count (adjusted (count (x .1)) (e .amount))) (refuse n.refused-count) _ _ (sided-unchanged _ _)
+      if-holds (λ o. Sided o (member P n.access-zone (e .instance))) (ltb n.largest-count (adjusted (count (x .1)) (e .amount))) (refuse n.refused-count) _ (sided-unchanged _ _)
       (sided-count e _)
   sided-worked SetDisable ps e x a h g =
       record { point = refl; credential = own-side n.access-credential (e .instance); «zone_to» = refl; «zone_from» = refl; waits = refl }
@@ -249,7 +239,7 @@ module _ (P : Part) where
         «zone_to» = refl;
         «zone_from» = refl;
         waits =
-            side-if (locks e) n.access-credential NONE _ (member P n.access-point (e .instance)) refl
+            if-holds (λ (c : CredentialId). onSide P n.access-credential (c .0) (member P n.access-point (e .instance)) ≡ true) (locks e) (credentialId NONE) _ refl
             (point-inside (e .instance) x a h .waits);
       }
   sided-worked Unknown ps e x a h g = sided-unchanged _ _

@@ -16,8 +16,8 @@ use Rattle.model.specs.Accept.{inRange, pointInRange, exists}
 use Rattle.model.specs.State.{Pair, Panel, sites, findBy, find, seek, store, write, count, zoneBytes, freshRecord}
 use Rattle.model.specs.Entry.{entryOf, operationOf, objectKind, inForm, answerBytes}
 use Rattle.model.specs.Checks.{eventOf}
-use Rattle.model.specs.Effects.{counts, countAfter, answerTo, outcomeOf}
-use Rattle.model.specs.Step.{noCount, unchanged, refuse, zoneTo, zoneFrom, viewOf, rulesAt, factorOutcome, countOutcome, isNegative, adjusted, adjustOutcome, disableOutcome, serviceOutcome, workedOutcome, outcomeAs, entryOutcome, apply, after, answers}
+use Rattle.model.specs.Effects.{counts, countAfter, answerWith, outcomeWith, outcomeOf}
+use Rattle.model.specs.Step.{noCount, unchanged, refuse, zoneTo, zoneFrom, situationOf, rulesAt, factorOutcome, countOutcome, isNegative, adjusted, adjustOutcome, disableOutcome, serviceOutcome, workedOutcome, outcomeAs, entryOutcome, apply, after, answers}
 use Rattle.model.specs.Tally.{Tally, move, setTo, signed, passed, talliedAs, tallied, tally, tallyOf, standing, countOf}
 use Rattle.model.specs.Demands.{Count}
 use Rattle.model.specs.declared.Entry.{Entry}
@@ -25,7 +25,7 @@ use Rattle.model.specs.declared.Answer.{Answer}
 use Rattle.model.specs.declared.Outcome.{Outcome}
 use Rattle.model.specs.declared.Operation.{Operation}
 use Rattle.model.specs.declared.Operation.the-variants.{Factor, SetCount, AdjustCount, SetDisable, SetService, Unknown}
-use Rattle.model.proofs.Laws.{and-left, and-right, find-in, found, sites-write, sites-apply, all-found-in}
+use Rattle.model.proofs.Laws.{if-holds, and-left, and-right, find-in, found, sites-write, sites-apply, all-found-in}
 use Rattle.model.proofs.RoundTrip.{count-back, event-back, refusal-back}
 use Rattle.model.proofs.Flat.{freshPanel, sites-fresh}
 use Rattle.model.proofs.Runs.{workedAt, allEntries, accepted, ended-panel, worked-list}
@@ -81,8 +81,8 @@ zoneCount z ps = count (find n.access-zone z ps .1)
 -- The count that an outcome leaves a zone of the count c.
 unfoldable countBy : ℕ → Outcome → ℕ → ℕ
 countBy z o c =
-    if o .«zone_to» .written && eqb (o .«zone_to» .instance) z then o .«zone_to» .count else
-    if o .«zone_from» .written && eqb (o .«zone_from» .instance) z then o .«zone_from» .count else
+    if o .«zone_to» .written && eqb (o .«zone_to» .instance .0) z then o .«zone_to» .count else
+    if o .«zone_from» .written && eqb (o .«zone_from» .instance .0) z then o .«zone_from» .count else
     c
 
 -- A write to a record of another kind.
@@ -122,7 +122,7 @@ module _ (z : ℕ) (not-none : eqb z NONE ≡ false) where
   unfolding apply countBy
   count-apply o ps g =
       let from = o .«zone_from» in
-      let f : There z (write (from .written) n.access-zone (from .instance) (zoneBytes (from .count)) ps) = rw sites-write g in
+      let f : There z (write (from .written) n.access-zone (from .instance .0) (zoneBytes (from .count)) ps) = rw sites-write g in
       rw (count-other, count-other, count-zone, count-zone)
 
 -- ── what an accepted site says of its zones and points
@@ -137,24 +137,16 @@ zone-real z ps a g =
     let small : ltb z NONE ≡ true = rw numbered at (and-left (ltb (instance s) NONE) _ (all-found-in inRange (isZone z) (sites ps) a g)) in
     ne-eqb z NONE (λ d. omega (arith, ltb-true z NONE small))
 
--- A reference of a record that is there is its field.
-reference-field : (at : ℕ) (s : List ℕ) → missing s ≡ false → reference at s ≡ field at 4 s
-unfolding reference
-reference-field at [] g = cc
-reference-field at (x ∷ s) g = refl
-
 -- A point does not lead from a zone into that zone.
-zones-differ : (z : ℕ) → eqb z NONE ≡ false → (i : ℕ) (s : List ℕ) → missing s ≡ false → isPoint i s ≡ true → inRange s ≡ true →
-    eqb (pointOf s .«zone_to») z && eqb (pointOf s .«zone_from») z ≡ false
+zones-differ : (z : ℕ) → eqb z NONE ≡ false → (i : ℕ) (s : List ℕ) → isPoint i s ≡ true → inRange s ≡ true →
+    eqb (pointOf s .«zone_to» .0) z && eqb (pointOf s .«zone_from» .0) z ≡ false
 unfolding inRange pointInRange pointOf
-zones-differ z not-none i s g p r = go (eqb (reference 8 s) z) (eqb (reference 12 s) z) refl refl
+zones-differ z not-none i s p r = go (eqb (reference 8 s) z) (eqb (reference 12 s) z) refl refl
   where
     go : (a b : Bool) → eqb (reference 8 s) z ≡ a → eqb (reference 12 s) z ≡ b → a && b ≡ false
     go true true e f =
         let k : kind s ≡ n.access-point = eqb-true (kind s) n.access-point (and-left (eqb (kind s) n.access-point) (eqb (instance s) i) p) in
-        let to : field 8 4 s ≡ z = sym (reference-field 8 s g) ∙ eqb-true (reference 8 s) z e in
-        let from : field 12 4 s ≡ z = sym (reference-field 12 s g) ∙ eqb-true (reference 12 s) z f in
-        sym (simp (k, to, from, not-none, eq-eqb z z refl, and-false) at r)
+        sym (simp (k, eqb-true (reference 8 s) z e, eqb-true (reference 12 s) z f, not-none, eq-eqb z z refl, and-false) at r)
     go true false e f = refl
     go false b e f = refl
 
@@ -211,10 +203,6 @@ module _ (z : ℕ) (not-none : eqb z NONE ≡ false) (ps : Panel) (t : Tally) (h
       pos (countBy z u (zoneCount z ps)) ≡ standing (talliedAs o z (sites ps) e (u .answer .event) (u .answer .refusal) t)
 
   -- Of an `if`: both of its outcomes.
-  fits-if : (c : Bool) (o : Operation) (u v : Outcome) → Fits o u → Fits o v → Fits o (if c then u else v)
-  fits-if true o u v a b = a
-  fits-if false o u v a b = b
-
   -- A refusal.
   fits-refuse : (r : ℕ) → eqb r n.not-refused ≡ false → (o : Operation) → Fits o (refuse r)
   unfolding Fits countBy refuse unchanged noCount
@@ -238,7 +226,7 @@ module _ (z : ℕ) (not-none : eqb z NONE ≡ false) (ps : Panel) (t : Tally) (h
   fits-adjust : (m : ℕ) → (eqb (e .instance) z ≡ true → m ≡ zoneCount z ps) → Fits AdjustCount (adjustOutcome e m)
   unfolding Fits countBy adjustOutcome countOutcome noCount
   fits-adjust m s =
-      fits-if (ltb n.largest-count (adjusted m (e .amount))) AdjustCount (refuse n.refused-count) (countOutcome e (adjusted m (e .amount)))
+      if-holds (Fits AdjustCount) (ltb n.largest-count (adjusted m (e .amount))) (refuse n.refused-count) (countOutcome e (adjusted m (e .amount)))
       (fits-refuse n.refused-count refl AdjustCount) (go (eqb (e .instance) z) refl)
     where
       go : (c : Bool) → eqb (e .instance) z ≡ c →
@@ -255,12 +243,12 @@ module _ (z : ℕ) (not-none : eqb z NONE ≡ false) (ps : Panel) (t : Tally) (h
 
   -- Operation 1: any event x at the point's records p.
   fits-outcome : (p : Pair) (x : ℕ) → findIn (isPoint (e .instance)) (sites ps) ≡ p .0 →
-      eqb (pointOf (p .0) .«zone_to») z && eqb (pointOf (p .0) .«zone_from») z ≡ false → Fits Factor (outcomeOf (viewOf ps e p) e x)
-  unfolding Fits countBy outcomeOf answerTo countAfter counts passed viewOf zoneTo zoneFrom
+      eqb (pointOf (p .0) .«zone_to» .0) z && eqb (pointOf (p .0) .«zone_from» .0) z ≡ false → Fits Factor (outcomeOf (situationOf ps e p) e x)
+  unfolding Fits countBy outcomeOf outcomeWith answerWith countAfter counts passed situationOf zoneTo zoneFrom
   fits-outcome p x f d =
       rw (f, passage-if)
-      (standing-passed (zoneCount z ps) t h (eqb x n.granted && pointOf (p .0) .«count_adjust») (eqb (pointOf (p .0) .«zone_to») z)
-      (eqb (pointOf (p .0) .«zone_from») z) _ _ _ _ _ (same-zone (pointOf (p .0) .«zone_to»)) (same-zone (pointOf (p .0) .«zone_from»)) d)
+      (standing-passed (zoneCount z ps) t h (eqb x n.granted && pointOf (p .0) .«count_adjust») (eqb (pointOf (p .0) .«zone_to» .0) z)
+      (eqb (pointOf (p .0) .«zone_from» .0) z) _ _ _ _ _ (same-zone (pointOf (p .0) .«zone_to» .0)) (same-zone (pointOf (p .0) .«zone_from» .0)) d)
 
   -- The operation at its object's records x.
   fits-worked : all inRange (sites ps) ≡ true → (o : Operation) (x : Pair) → find (objectKind o) (e .instance) ps ≡ x →
@@ -269,8 +257,8 @@ module _ (z : ℕ) (not-none : eqb z NONE ≡ false) (ps : Panel) (t : Tally) (h
   fits-worked a Factor x f p g =
       let s : findIn (isPoint (e .instance)) (sites ps) ≡ x .0 = rw (← find-in (isPoint (e .instance)) ps, f) in
       let r : inRange (x .0) ≡ true = rw s at (all-found-in inRange (isPoint (e .instance)) (sites ps) a (rw s g)) in
-      fits-if (pointOf (x .0) .«out_of_service») Factor _ _ h
-      (fits-outcome x (eventOf (viewOf ps e x) (rulesAt ps e x) e) s (zones-differ z not-none (e .instance) (x .0) g p r))
+      if-holds (Fits Factor) (pointOf (x .0) .«out_of_service») _ _ h
+      (fits-outcome x (eventOf (situationOf ps e x) (rulesAt ps e x) e) s (zones-differ z not-none (e .instance) (x .0) p r))
   fits-worked a SetCount x f p g = fits-set
   fits-worked a AdjustCount x f p g = fits-adjust (count (x .1)) (λ q. rw (← f, eqb-true (e .instance) z q))
   fits-worked a SetDisable x f p g = h
@@ -288,7 +276,7 @@ module _ (z : ℕ) (not-none : eqb z NONE ≡ false) (ps : Panel) (t : Tally) (h
       there o false q = fits-worked a o _ refl (found (isAt (objectKind o) (e .instance)) ps q) q
 
       go : (o : Operation) → Fits o (outcomeAs o ps e (find (objectKind o) (e .instance) ps))
-      go o = fits-if (not (inForm o e)) o (refuse n.refused-form) _ (fits-refuse n.refused-form refl o) (there o _ refl)
+      go o = if-holds (Fits o) (not (inForm o e)) (refuse n.refused-form) _ (fits-refuse n.refused-form refl o) (there o _ refl)
 
 -- ── a list of entries
 

@@ -12,16 +12,16 @@ use Rattle.octets.proofs.Laws.{same-refl}
 use Rattle.model.specs.Words.{if_then_else_, any, all, missing}
 use Rattle.model.specs.Numbers as n
 use Rattle.model.specs.Numbers.{NONE}
-use Rattle.model.specs.Site.{records, kind, instance, role, pointOf, isAt, findIn}
+use Rattle.model.specs.Site.{credentialId, records, kind, instance, role, pointOf, isAt, findIn}
 use Rattle.model.specs.State.{Pair, Panel, sites, find, pointStateOf, count, recordWell, panel, wellFormed}
 use Rattle.model.specs.Entry.{entryOf, entries, operationOf, objectKind, inForm}
-use Rattle.model.specs.Checks.{stillLocked, waiting, overdue, presents, identifying, confirming, factorFor, credentialRead, disabledFactor, firstOfTwo, authenticationOf, authentication, inactive, validityOf, validity, passbackViolated, atLowerLimit, atUpperLimit, authorizationOf, authorization, passage, eventOf}
-use Rattle.model.specs.Effects.{named, answerTo, outcomeOf}
-use Rattle.model.specs.Step.{noAnswer, zoneTo, unchanged, refuse, factorRead, numberRead, viewOf, rulesAt, factorOutcome, countOutcome, adjusted, adjustOutcome, disableOutcome, locks, serviceOutcome, workedOutcome, outcomeAs, entryOutcome, after, credentialAt}
+use Rattle.model.specs.Checks.{stillLocked, waiting, overdue, presents, identifying, confirming, factorFor, credentialRead, disabledFactor, firstOfTwo, authenticationOf, authentication, inactive, validityOf, validity, passbackViolated, atLowerLimit, atUpperLimit, authorizationOf, authorization, passage, entitlement, eventOf}
+use Rattle.model.specs.Effects.{named, answerWith, outcomeWith, outcomeOf}
+use Rattle.model.specs.Step.{noAnswer, zoneTo, unchanged, refuse, factorRead, numberRead, situationOf, rulesAt, factorOutcome, countOutcome, adjusted, adjustOutcome, disableOutcome, locks, serviceOutcome, workedOutcome, outcomeAs, entryOutcome, after, credentialAt}
 use Rattle.model.specs.Earned.{Authorized, EarnedAt, Earned}
 use Rattle.model.specs.Lists.{runOn, firstOf, eventIn, credentialIn, ended}
 use Rattle.model.specs.Demands.{GrantEarned, WellFormed}
-use Rattle.model.proofs.Laws.{and-left, and-right, found-in}
+use Rattle.model.proofs.Laws.{if-holds, and-left, and-right, found-in}
 use Rattle.model.proofs.RoundTrip.{event-back, credential-named-back}
 use Rattle.model.proofs.Flat.{sites-after, sites-panel, panel-back}
 use Rattle.model.proofs.Runs.{accepted, ended-length}
@@ -29,7 +29,8 @@ use Rattle.model.proofs.Entries.{state-at, answer-at}
 use Rattle.model.proofs.Well.{credential-sought}
 use Rattle.model.proofs.WellStep.{well-after}
 use Rattle.model.proofs.KeptWell.{well-formed}
-use Rattle.model.specs.declared.View.{View}
+use Rattle.model.specs.declared.CredentialId.{CredentialId}
+use Rattle.model.specs.declared.Situation.{Situation}
 use Rattle.model.specs.declared.Verdict.{Verdict}
 use Rattle.model.specs.declared.Entry.{Entry}
 use Rattle.model.specs.declared.Outcome.{Outcome}
@@ -58,7 +59,7 @@ disabled-factor d =
     (either (eqb d 2) 143 _ (λ h. omega arith)
     (either (eqb d 3) 144 _ (λ h. omega arith) (either (eqb d 4) 145 146 (λ h. omega arith) (λ h. omega arith))))
 
-record Authenticated (v : View) (e : Entry) : Type 0 where
+record Authenticated (v : Situation) (e : Entry) : Type 0 where
   not-locked : stillLocked v e ≡ false
   in-time : overdue v e ≡ false
   matched : v .matched ≡ true
@@ -66,7 +67,7 @@ record Authenticated (v : View) (e : Entry) : Type 0 where
   not-first : firstOfTwo v ≡ false
 
 -- Steps 1 to 4.
-authenticated : (v : View) (e : Entry) (next : ℕ) → authentication (authenticationOf v e) next ≡ 1 → Authenticated v e × (next ≡ 1)
+authenticated : (v : Situation) (e : Entry) (next : ℕ) → authentication (authenticationOf v e) next ≡ 1 → Authenticated v e × (next ≡ 1)
 unfolding authenticationOf
 authenticated v e next h =
     let a = passed (stillLocked v e) 161 _ (λ z. omega arith) h in
@@ -85,7 +86,7 @@ authenticated v e next h =
       g .1,
     )
 
-record Valid (v : View) (e : Entry) : Type 0 where
+record Valid (v : Situation) (e : Entry) : Type 0 where
   active : v .credential .activation ≤ e .time
   unexpired : e .time ≤ v .credential .expiry
   not-disabled : eqb (v .«credential_state» .disable) 1 ≡ false
@@ -96,7 +97,7 @@ record Valid (v : View) (e : Entry) : Type 0 where
   not-absent : inactive (v .«credential_state» .«last_use») (v .credential .«absentee_days») (e .time) ≡ false
 
 -- Step 5.
-valid : (v : View) (e : Entry) (next : ℕ) → validity (validityOf v e) next ≡ 1 → Valid v e × (next ≡ 1)
+valid : (v : Situation) (e : Entry) (next : ℕ) → validity (validityOf v e) next ≡ 1 → Valid v e × (next ≡ 1)
 unfolding validityOf
 valid v e next h =
     let a = passed (ltb (e .time) (v .credential .activation)) 151 _ (λ z. omega arith) h in
@@ -121,13 +122,13 @@ valid v e next h =
     )
 
 -- Steps 7 to 10.
-authorized : (v : View) (rules : Verdict) (e : Entry) (next : ℕ) → authorization (authorizationOf v rules e) next ≡ 1 → Authorized v rules e
+authorized : (v : Situation) (rules : Verdict) (e : Entry) (next : ℕ) → authorization (authorizationOf v rules e) next ≡ 1 → Authorized v rules e
 unfolding authorizationOf
 authorized v rules e next h =
     let a = passed (eqb (v .point .mode) 2) 128 _ (λ z. omega arith) h in
     let b = passed (ltb (v .credential .«threat_authority») (v .point .«threat_level»)) 137 _ (λ z. omega arith) (a .1) in
     let c = passed (eqb (v .point .mode) 0 && rules .«negative_fits») 135 _ (λ z. omega arith) (b .1) in
-    let d = passed (eqb (v .point .mode) 0 && not (rules .«positive_fits»)) _ _ (either (rules .«positive_located») 136 _ (λ z. omega arith) (either (not (eqb (v .point .«zone_to») NONE)) 133 134 (λ z. omega arith) (λ z. omega arith))) (c .1) in
+    let d = passed (eqb (v .point .mode) 0 && not (rules .«positive_fits»)) _ _ (either (rules .«positive_located») 136 _ (λ z. omega arith) (either (not (eqb (v .point .«zone_to» .0) NONE)) 133 134 (λ z. omega arith) (λ z. omega arith))) (c .1) in
     let f = passed (passbackViolated v e && eqb (v .«zone_to» .passback) 1) 138 _ (λ z. omega arith) (d .1) in
     let g = passed (atLowerLimit v) 141 _ (λ z. omega arith) (f .1) in
     let i = passed (atUpperLimit v) 142 _ (λ z. omega arith) (g .1) in
@@ -142,20 +143,20 @@ authorized v rules e next h =
     }
 
 -- All of the order of checks; master exemption skips steps 7 to 10.
-record Passed (v : View) (rules : Verdict) (e : Entry) : Type 0 where
+record Passed (v : Situation) (rules : Verdict) (e : Entry) : Type 0 where
   authentic : Authenticated v e
   is-valid : Valid v e
   is-authorized : v .credential .master ≡ false → Authorized v rules e
 
-passed-all : (v : View) (rules : Verdict) (e : Entry) → eventOf v rules e ≡ 1 → Passed v rules e
-unfolding eventOf
+passed-all : (v : Situation) (rules : Verdict) (e : Entry) → eventOf v rules e ≡ 1 → Passed v rules e
+unfolding eventOf entitlement
 passed-all v rules e h =
     let a = authenticated v e _ h in
     let b = valid v e _ (a .1) in
     record {
       authentic = a .0;
       is-valid = b .0;
-      is-authorized = λ m. authorized v rules e (passage v) (unless (v .credential .master) (passage v) _ m (b .1));
+      is-authorized = λ m. authorized v rules e (passage v 1) (unless (v .credential .master) (passage v 1) _ m (b .1));
     }
 
 -- ── the entry that is granted
@@ -171,40 +172,40 @@ found-among q (s ∷ ss) h = go (q s) h (found-among q ss)
     go false h ih = rw (ih h, or-true)
 
 -- The factor that was found: it is in the site, passes the test asked, and is of the credential read.
-record Matched (c : ℕ) (e : Entry) (ss : List (List ℕ)) : Type 0 where
+record Matched (c : CredentialId) (e : Entry) (ss : List (List ℕ)) : Type 0 where
   in-site : any (same (factorFor c e ss)) ss ≡ true
   passes :
-      (if not (eqb c NONE) then confirming (credentialRead c (factorFor c e ss)) (e .argument) (e .value) (factorFor c e ss)
+      (if not (eqb (c .0) NONE) then confirming (credentialRead c (factorFor c e ss)) (e .argument) (e .value) (factorFor c e ss)
       else identifying (e .argument) (e .value) (factorFor c e ss)) ≡ true
-  of-credential : instance (factorFor c e ss) ≡ credentialRead c (factorFor c e ss)
+  of-credential : credentialId (instance (factorFor c e ss)) ≡ credentialRead c (factorFor c e ss)
 
-module _ (c : ℕ) (e : Entry) (ss : List (List ℕ)) where
+module _ (c : CredentialId) (e : Entry) (ss : List (List ℕ)) where
   -- Nobody is waited for: an identifying factor. Else a confirming one of the credential waited for.
-  first-factor : eqb c NONE ≡ true → factorFor c e ss ≡ findIn (identifying (e .argument) (e .value)) ss
+  first-factor : eqb (c .0) NONE ≡ true → factorFor c e ss ≡ findIn (identifying (e .argument) (e .value)) ss
   unfolding factorFor
   first-factor n = rw n
 
-  second-factor : eqb c NONE ≡ false → factorFor c e ss ≡ findIn (confirming c (e .argument) (e .value)) ss
+  second-factor : eqb (c .0) NONE ≡ false → factorFor c e ss ≡ findIn (confirming c (e .argument) (e .value)) ss
   unfolding factorFor
   second-factor n = rw n
 
-  first-read : eqb c NONE ≡ true → (f : List ℕ) → missing f ≡ false → credentialRead c f ≡ instance f
+  first-read : eqb (c .0) NONE ≡ true → (f : List ℕ) → missing f ≡ false → credentialRead c f ≡ credentialId (instance f)
   unfolding credentialRead
   first-read n f h = rw (n, h)
 
-  second-read : eqb c NONE ≡ false → (f : List ℕ) → credentialRead c f ≡ c
+  second-read : eqb (c .0) NONE ≡ false → (f : List ℕ) → credentialRead c f ≡ c
   unfolding credentialRead
   second-read n f = rw n
 
-  confirming-instance : (f : List ℕ) → confirming c (e .argument) (e .value) f ≡ true → instance f ≡ c
+  confirming-instance : (f : List ℕ) → confirming c (e .argument) (e .value) f ≡ true → credentialId (instance f) ≡ c
   unfolding confirming
   confirming-instance f h =
-      eqb-true (instance f) c (and-right (eqb (kind f) 5) (eqb (instance f) c) (and-left (isAt 5 c f) (eqb (role f) 2 && presents (e .argument) (e .value) f) h))
+      ap credentialId (eqb-true (instance f) (c .0) (and-right (eqb (kind f) 5) (eqb (instance f) (c .0)) (and-left (isAt 5 (c .0) f) (eqb (role f) 2 && presents (e .argument) (e .value) f) h)))
 
   matched : missing (factorFor c e ss) ≡ false → Matched c e ss
-  matched = go (eqb c NONE) refl
+  matched = go (eqb (c .0) NONE) refl
     where
-      go : (d : Bool) → eqb c NONE ≡ d → missing (factorFor c e ss) ≡ false → Matched c e ss
+      go : (d : Bool) → eqb (c .0) NONE ≡ d → missing (factorFor c e ss) ≡ false → Matched c e ss
       go true n h =
           let f = first-factor n in
           let g : missing (findIn (identifying (e .argument) (e .value)) ss) ≡ false = rw f at h in
@@ -224,12 +225,12 @@ module _ (c : ℕ) (e : Entry) (ss : List (List ℕ)) where
           }
 
 -- Where two factors are wanted, the credential read is the one waited for.
-confirmed : (v : View) (f : List ℕ) → firstOfTwo v ≡ false → v .point .«factors_wanted» ≡ 2 →
+confirmed : (v : Situation) (f : List ℕ) → firstOfTwo v ≡ false → v .point .«factors_wanted» ≡ 2 →
     v .«point_state» .«waiting_credential» ≡ credentialRead (v .«point_state» .«waiting_credential») f
 unfolding firstOfTwo waiting
-confirmed v f h two = go (eqb (v .«point_state» .«waiting_credential») NONE) refl (rw (eq-eqb (v .point .«factors_wanted») 2 two) at h)
+confirmed v f h two = go (eqb (v .«point_state» .«waiting_credential» .0) NONE) refl (rw (eq-eqb (v .point .«factors_wanted») 2 two) at h)
   where
-    go : (c : Bool) → eqb (v .«point_state» .«waiting_credential») NONE ≡ c → not (not c) && true ≡ false →
+    go : (c : Bool) → eqb (v .«point_state» .«waiting_credential» .0) NONE ≡ c → not (not c) && true ≡ false →
         v .«point_state» .«waiting_credential» ≡ credentialRead (v .«point_state» .«waiting_credential») f
     go true n h = cc
     go false n h = unfold credentialRead in rw n
@@ -242,13 +243,13 @@ no-disable d l a b c =
     let w = eqb-false d 3 c in
     omega arith
 
--- The view of a granted entry, at the point's records p. The credential's disable is in range in a well-formed state.
-granted-view : (ps : Panel) (e : Entry) (p : Pair) → pointOf (p .0) .«out_of_service» ≡ false →
-    leb (viewOf ps e p .«credential_state» .disable) 3 ≡ true → eventOf (viewOf ps e p) (rulesAt ps e p) e ≡ 1 →
-    EarnedAt (viewOf ps e p) (rulesAt ps e p) (sites ps) (factorRead ps e p) e (numberRead ps e p)
-unfolding viewOf factorRead numberRead waiting
-granted-view ps e p s d h =
-    let a = passed-all (viewOf ps e p) (rulesAt ps e p) e h in
+-- The situation of a granted entry, at the point's records p. The credential's disable is in range in a well-formed state.
+granted-situation : (ps : Panel) (e : Entry) (p : Pair) → pointOf (p .0) .«out_of_service» ≡ false →
+    leb (situationOf ps e p .«credential_state» .disable) 3 ≡ true → eventOf (situationOf ps e p) (rulesAt ps e p) e ≡ 1 →
+    EarnedAt (situationOf ps e p) (rulesAt ps e p) (sites ps) (factorRead ps e p) e (numberRead ps e p)
+unfolding situationOf factorRead numberRead waiting
+granted-situation ps e p s d h =
+    let a = passed-all (situationOf ps e p) (rulesAt ps e p) e h in
     let c = a .is-valid in
     let m = matched (pointStateOf (p .1) .«waiting_credential») e (sites ps) (not-true (missing (factorRead ps e p)) (a .authentic .matched)) in
     record {
@@ -258,13 +259,13 @@ granted-view ps e p s d h =
       matched = m .passes;
       of-credential = m .of-credential;
       factor-enabled = a .authentic .factor-enabled;
-      confirmed = confirmed (viewOf ps e p) (factorRead ps e p) (a .authentic .not-first);
+      confirmed = confirmed (situationOf ps e p) (factorRead ps e p) (a .authentic .not-first);
       in-time = a .authentic .in-time;
       active = c .active;
       unexpired = c .unexpired;
-      credential-enabled = no-disable (viewOf ps e p .«credential_state» .disable) d (c .not-disabled) (c .not-manual) (c .not-lockout);
-      days-left = positive (viewOf ps e p .«credential_state» .days) (c .days);
-      uses-left = positive (viewOf ps e p .«credential_state» .uses) (c .uses);
+      credential-enabled = no-disable (situationOf ps e p .«credential_state» .disable) d (c .not-disabled) (c .not-manual) (c .not-lockout);
+      days-left = positive (situationOf ps e p .«credential_state» .days) (c .days);
+      uses-left = positive (situationOf ps e p .«credential_state» .uses) (c .uses);
       not-absent = c .not-absent;
       authorized = a .is-authorized;
     }
@@ -273,38 +274,33 @@ granted-view ps e p s d h =
     positive k h = let x = eqb-false k 0 h in omega arith
 
 -- An entry that is answered with event 1: a factor read at a point in service, whose order of checks came to 1.
-record Grant (o : Operation) (ps : Panel) (e : Entry) (x : Pair) (credential : ℕ) : Type 0 where
+record Grant (o : Operation) (ps : Panel) (e : Entry) (x : Pair) (credential : CredentialId) : Type 0 where
   is-factor : o ≡ Factor
   in-service : pointOf (x .0) .«out_of_service» ≡ false
-  event : eventOf (viewOf ps e x) (rulesAt ps e x) e ≡ 1
+  event : eventOf (situationOf ps e x) (rulesAt ps e x) e ≡ 1
   number : credential ≡ numberRead ps e x
 
 Granting : Operation → Panel → Entry → Pair → Outcome → Type 0
 Granting o ps e x u = u .answer .event ≡ 1 → Grant o ps e x (u .answer .credential)
-
-granting-if : (c : Bool) (o : Operation) (ps : Panel) (e : Entry) (x : Pair) (u w : Outcome) → Granting o ps e x u → Granting o ps e x w →
-    Granting o ps e x (if c then u else w)
-granting-if true o ps e x u w p q = p
-granting-if false o ps e x u w p q = q
 
 granting-refuse : (n : ℕ) (o : Operation) (ps : Panel) (e : Entry) (x : Pair) → Granting o ps e x (refuse n)
 unfolding Granting refuse unchanged
 granting-refuse n o ps e x h = absurd (omega arith)
 
 -- Event 1 names the credential that was read.
-named-one : (v : View) (x : ℕ) → x ≡ 1 → named v x ≡ v .number
+named-one : (v : Situation) (x : ℕ) → x ≡ 1 → named v x ≡ v .number
 unfolding named
 named-one v x h = rw (h, and-false (not (waiting v)))
 
 granting-outcome : (ps : Panel) (e : Entry) (x : Pair) → pointOf (x .0) .«out_of_service» ≡ false →
-    Granting Factor ps e x (outcomeOf (viewOf ps e x) e (eventOf (viewOf ps e x) (rulesAt ps e x) e))
-unfolding Granting outcomeOf answerTo
+    Granting Factor ps e x (outcomeOf (situationOf ps e x) e (eventOf (situationOf ps e x) (rulesAt ps e x) e))
+unfolding Granting outcomeOf outcomeWith answerWith
 granting-outcome ps e x s h =
     record {
       is-factor = refl;
       in-service = s;
       event = h;
-      number = named-one (viewOf ps e x) (eventOf (viewOf ps e x) (rulesAt ps e x) e) h ∙ (unfold viewOf in refl);
+      number = named-one (situationOf ps e x) (eventOf (situationOf ps e x) (rulesAt ps e x) e) h ∙ (unfold situationOf in refl);
     }
 
 granting-factor : (ps : Panel) (e : Entry) (x : Pair) → Granting Factor ps e x (factorOutcome ps e x)
@@ -314,7 +310,7 @@ granting-factor ps e x = go (pointOf (x .0) .«out_of_service») refl
     go : (c : Bool) → pointOf (x .0) .«out_of_service» ≡ c →
         Granting Factor ps e x
         (if c then unchanged (noAnswer 0 (pointStateOf (x .1) .tag) (count (zoneTo ps x .1)))
-        else outcomeOf (viewOf ps e x) e (eventOf (viewOf ps e x) (rulesAt ps e x) e))
+        else outcomeOf (situationOf ps e x) e (eventOf (situationOf ps e x) (rulesAt ps e x) e))
     go true s = λ h. absurd (omega arith)
     go false s = granting-outcome ps e x s
 
@@ -323,7 +319,7 @@ unfolding Granting countOutcome adjustOutcome disableOutcome serviceOutcome
 granting-worked Factor ps e x = granting-factor ps e x
 granting-worked SetCount ps e x = λ h. absurd (omega arith)
 granting-worked AdjustCount ps e x =
-    granting-if (ltb _ (adjusted _ (e .amount))) AdjustCount ps e x (refuse _) (countOutcome e _) (granting-refuse _ AdjustCount ps e x) (λ h. absurd (omega arith))
+    if-holds (Granting AdjustCount ps e x) (ltb _ (adjusted _ (e .amount))) (refuse _) (countOutcome e _) (granting-refuse _ AdjustCount ps e x) (λ h. absurd (omega arith))
 granting-worked SetDisable ps e x = λ h. absurd (omega arith)
 granting-worked SetService ps e x = λ h. absurd (either (locks e) 7 8 (λ z. omega arith) (λ z. omega arith) h)
 granting-worked Unknown ps e x = granting-refuse _ Unknown ps e x
@@ -335,8 +331,8 @@ granting-entry ps e = go (operationOf (e .operation))
     go : (o : Operation) → Granting o ps e (find (objectKind o) (e .instance) ps) (outcomeAs o ps e (find (objectKind o) (e .instance) ps))
     go o =
         let x = find (objectKind o) (e .instance) ps in
-        granting-if (not (inForm o e)) o ps e x (refuse _) (if missing (x .0) then refuse _ else _) (granting-refuse _ o ps e x)
-        (granting-if (missing (x .0)) o ps e x (refuse _) (workedOutcome o ps e x) (granting-refuse _ o ps e x) (granting-worked o ps e x))
+        if-holds (Granting o ps e x) (not (inForm o e)) (refuse _) (if missing (x .0) then refuse _ else _) (granting-refuse _ o ps e x)
+        (if-holds (Granting o ps e x) (missing (x .0)) (refuse _) (workedOutcome o ps e x) (granting-refuse _ o ps e x) (granting-worked o ps e x))
 
 -- At a panel whose state is well formed.
 earned-entry : (ps : Panel) (e : Entry) → all (recordWell (sites ps)) ps ≡ true → entryOutcome ps e .answer .event ≡ 1 →
@@ -348,12 +344,12 @@ earned-entry ps e w h =
     let k : find (objectKind (operationOf (e .operation))) (e .instance) ps ≡ p = ap (λ o. find (objectKind o) (e .instance) ps) (g .is-factor) in
     let c : entryOutcome ps e .answer .credential ≡ numberRead ps e p = g .number ∙ ap (numberRead ps e) k in (
       g .is-factor,
-      rw c (granted-view ps e p (ap (λ (x : Pair). pointOf (x .0) .«out_of_service») (sym k) ∙ g .in-service)
-          (disable-well ps e p w) (ap (λ x. eventOf (viewOf ps e x) (rulesAt ps e x) e) (sym k) ∙ g .event)),
+      rw c (granted-situation ps e p (ap (λ (x : Pair). pointOf (x .0) .«out_of_service») (sym k) ∙ g .in-service)
+          (disable-well ps e p w) (ap (λ x. eventOf (situationOf ps e x) (rulesAt ps e x) e) (sym k) ∙ g .event)),
     )
   where
-    disable-well : (ps : Panel) (e : Entry) (p : Pair) → all (recordWell (sites ps)) ps ≡ true → leb (viewOf ps e p .«credential_state» .disable) 3 ≡ true
-    disable-well ps e p w = unfold viewOf credentialAt in credential-sought (sites ps) ps w (numberRead ps e p) .disabled
+    disable-well : (ps : Panel) (e : Entry) (p : Pair) → all (recordWell (sites ps)) ps ≡ true → leb (situationOf ps e p .«credential_state» .disable) 3 ≡ true
+    disable-well ps e p w = unfold situationOf credentialAt in credential-sought (sites ps) ps w (numberRead ps e p .0) .disabled
 
 -- ── lists of runs from fresh
 

@@ -13,8 +13,12 @@ use Rattle.model.specs.Site.{kind, instance, reference, credentialOf, en
 use Rattle.model.specs.State.{Pair, Panel, sites, find, seek, pointStateOf}
 use Rattle.model.specs.Entry.{operationOf, objectKind, inForm}
 use Rattle.model.specs.Checks.{identifying, confirming, factorFor, ofRights, enabledRule, locationFits, timeFits, verdict}
-use Rattle.model.specs.Step.{refuse, factorRead, numberRead, zoneTo, zoneFrom, credentialAt, viewOf, rulesAt, factorOutcome, workedOutcome, outcomeAs, entryOutcome}
+use Rattle.model.specs.Step.{refuse, factorRead, numberRead, zoneTo, zoneFrom, credentialAt, situationOf, rulesAt, factorOutcome, workedOutcome, outcomeAs, entryOutcome}
 use Rattle.model.specs.Part.{Part, member, holds, belongs, onSide, credentialInside, inside, identified, identifiedInside, readInsideAs}
+use Rattle.model.specs.declared.ZoneId.{ZoneId}
+use Rattle.model.specs.declared.PointId.{PointId}
+use Rattle.model.specs.declared.CredentialId.{CredentialId}
+use Rattle.model.specs.declared.RightsId.{RightsId}
 use Rattle.model.specs.declared.Entry.{Entry}
 use Rattle.model.specs.declared.Operation.{Operation}
 use Rattle.model.specs.declared.Operation.the-variants.{Factor, SetCount, AdjustCount, SetDisable, SetService, Unknown}
@@ -58,36 +62,36 @@ module _ (P : Part) where
       holds-factor s k ∙ beq-is (member P n.access-credential (instance s)) true (rw (factor-there s k) at g)
 
   -- A confirming factor of a credential of the part.
-  confirmed-part : (c : ℕ) (e : Entry) (s : List ℕ) → member P n.access-credential c ≡ true →
+  confirmed-part : (c : CredentialId) (e : Entry) (s : List ℕ) → member P n.access-credential (c .0) ≡ true →
       confirming c (e .argument) (e .value) s ≡ true → holds P s ≡ true
   unfolding confirming member
-  confirmed-part c e s h a = holds-at P n.authentication-factor c s (and-left (isAt n.authentication-factor c s) _ a) ∙ h
+  confirmed-part c e s h a = holds-at P n.authentication-factor (c .0) s (and-left (isAt n.authentication-factor (c .0) s) _ a) ∙ h
 
   -- The factor that a point looks for.
-  factor-part : (c : ℕ) (e : Entry) (ss : List (List ℕ)) → onSide P n.access-credential c true ≡ true →
+  factor-part : (c : CredentialId) (e : Entry) (ss : List (List ℕ)) → onSide P n.access-credential (c .0) true ≡ true →
       missing (identified ss e) || Bool·beq (member P n.access-credential (instance (identified ss e))) true ≡ true →
       factorFor c e (keep (holds P) ss) ≡ factorFor c e ss
   unfolding factorFor identified
-  factor-part c e ss h g = go (eqb c NONE) refl
+  factor-part c e ss h g = go (eqb (c .0) NONE) refl
     where
-      go : (d : Bool) → eqb c NONE ≡ d →
+      go : (d : Bool) → eqb (c .0) NONE ≡ d →
           (if d then identified (keep (holds P) ss) e else findIn (confirming c (e .argument) (e .value)) (keep (holds P) ss))
           ≡ (if d then identified ss e else findIn (confirming c (e .argument) (e .value)) ss)
       go true none = find-keep (holds P) (identifying (e .argument) (e .value)) ss (λ a. identified-part e _ g a)
       go false none =
           find-keep (holds P) (confirming c (e .argument) (e .value)) ss
-          (λ a. confirmed-part c e _ (side-is P n.access-credential c true h none) a)
+          (λ a. confirmed-part c e _ (side-is P n.access-credential (c .0) true h none) a)
 
   -- ── the rules
 
   -- A rule of rights of the part is the part's.
-  rights-part : (r : ℕ) (s : List ℕ) → onSide P n.access-rule r true ≡ true → ofRights r s ≡ true → holds P s ≡ true
+  rights-part : (r : RightsId) (s : List ℕ) → onSide P n.access-rule (r .0) true ≡ true → ofRights r s ≡ true → holds P s ≡ true
   rights-part r s h a =
-      holds-at P n.access-rule r s (and-right (not (eqb r NONE)) (isAt n.access-rule r s) a)
-      ∙ side-is P n.access-rule r true h (not-true (eqb r NONE) (and-left (not (eqb r NONE)) (isAt n.access-rule r s) a))
+      holds-at P n.access-rule (r .0) s (and-right (not (eqb (r .0) NONE)) (isAt n.access-rule (r .0) s) a)
+      ∙ side-is P n.access-rule (r .0) true h (not-true (eqb (r .0) NONE) (and-left (not (eqb (r .0) NONE)) (isAt n.access-rule (r .0) s) a))
 
   -- A rule of either of two.
-  rule-part : (first second : ℕ) (s : List ℕ) → onSide P n.access-rule first true ≡ true → onSide P n.access-rule second true ≡ true →
+  rule-part : (first second : RightsId) (s : List ℕ) → onSide P n.access-rule (first .0) true ≡ true → onSide P n.access-rule (second .0) true ≡ true →
       enabledRule first second s ≡ true → holds P s ≡ true
   unfolding enabledRule
   rule-part first second s h g a = go (ofRights first s) refl (and-left (ofRights first s || ofRights second s) (enabled s) a)
@@ -97,8 +101,8 @@ module _ (P : Part) where
       go false e f = rights-part second s g f
 
   -- What the rules of rights of the part say.
-  verdict-part : (first second point to time : ℕ) (ss : List (List ℕ)) → onSide P n.access-rule first true ≡ true →
-      onSide P n.access-rule second true ≡ true →
+  verdict-part : (first second : RightsId) (point : PointId) (to : ZoneId) (time : ℕ) (ss : List (List ℕ)) →
+      onSide P n.access-rule (first .0) true ≡ true → onSide P n.access-rule (second .0) true ≡ true →
       verdict first second point to time (keep (holds P) ss) ≡ verdict first second point to time ss
   unfolding verdict
   verdict-part first second point to time ss h g =
@@ -116,8 +120,8 @@ module _ (P : Part) where
 
   -- The rights that a credential names are the part's.
   record Rights (s : List ℕ) : Type 0 where
-    first : onSide P n.access-rule (credentialOf s .«first_rights») true ≡ true
-    second : onSide P n.access-rule (credentialOf s .«second_rights») true ≡ true
+    first : onSide P n.access-rule (credentialOf s .«first_rights» .0) true ≡ true
+    second : onSide P n.access-rule (credentialOf s .«second_rights» .0) true ≡ true
 
   -- A credential that is not there names none.
   rights-missing : (s : List ℕ) → missing s ≡ true → Rights s
@@ -133,8 +137,8 @@ module _ (P : Part) where
       let k = kind-at n.access-credential i (x .0) a in
       let f = rw (k, holds-at P n.access-credential i (x .0) a, m) at (and-left (inside P (x .0)) (waitInside P x) h) in
       record {
-        first = and-left _ (onSide P n.access-rule (credentialOf (x .0) .«second_rights») true) f;
-        second = and-right (onSide P n.access-rule (credentialOf (x .0) .«first_rights») true) _ f;
+        first = and-left _ (onSide P n.access-rule (credentialOf (x .0) .«second_rights» .0) true) f;
+        second = and-right (onSide P n.access-rule (credentialOf (x .0) .«first_rights» .0) true) _ f;
       }
 
   -- ── a factor read at a point of the part: x is the point's records
@@ -158,7 +162,7 @@ module _ (P : Part) where
           (factor-part (pointStateOf (x .1) .«waiting_credential») e (sites ps) (rw m at (k .waits)) (rw m at g))
 
       -- Its credential is the part's, or NONE.
-      number-part : onSide P n.access-credential (numberRead ps e x) true ≡ true
+      number-part : onSide P n.access-credential (numberRead ps e x .0) true ≡ true
       unfolding numberRead factorRead
       number-part = rw m at (number-side P (pointStateOf (x .1) .«waiting_credential») e (sites ps) (k .waits) g)
 
@@ -168,36 +172,36 @@ module _ (P : Part) where
       credential-part = rw factor-read-part (seek-part n.access-credential _ ps number-part)
 
       -- All that the order of checks looks at.
-      view-part : viewOf (only (holds P) ps) e x ≡ viewOf ps e x
-      unfolding viewOf numberRead
-      view-part = rw (zone-to-part, zone-from-part, factor-read-part, credential-part)
+      situation-part : situationOf (only (holds P) ps) e x ≡ situationOf ps e x
+      unfolding situationOf numberRead
+      situation-part = rw (zone-to-part, zone-from-part, factor-read-part, credential-part)
 
       module _ (a : all (pairInside P) ps ≡ true) where
         -- The rights that the credential names are the part's.
         rights-read : Rights (credentialAt ps e x .0)
         unfolding credentialAt seek find
-        rights-read = go (eqb (numberRead ps e x) NONE) (missing (find n.access-credential (numberRead ps e x) ps .0)) refl refl
+        rights-read = go (eqb (numberRead ps e x .0) NONE) (missing (find n.access-credential (numberRead ps e x .0) ps .0)) refl refl
           where
-            go : (c d : Bool) → eqb (numberRead ps e x) NONE ≡ c → missing (find n.access-credential (numberRead ps e x) ps .0) ≡ d →
-                Rights ((if c then ([], []) else find n.access-credential (numberRead ps e x) ps) .0)
+            go : (c d : Bool) → eqb (numberRead ps e x .0) NONE ≡ c → missing (find n.access-credential (numberRead ps e x .0) ps .0) ≡ d →
+                Rights ((if c then ([], []) else find n.access-credential (numberRead ps e x .0) ps) .0)
             go true d none q = rights-missing [] refl
             go false true none q = rights-missing _ q
             go false false none q =
-                rights-of (numberRead ps e x) _ (found (isAt n.access-credential (numberRead ps e x)) ps q)
-                (all-found (pairInside P) (isAt n.access-credential (numberRead ps e x)) ps a q)
-                (side-is P n.access-credential (numberRead ps e x) true number-part none)
+                rights-of (numberRead ps e x .0) _ (found (isAt n.access-credential (numberRead ps e x .0)) ps q)
+                (all-found (pairInside P) (isAt n.access-credential (numberRead ps e x .0)) ps a q)
+                (side-is P n.access-credential (numberRead ps e x .0) true number-part none)
 
         -- What the rules say.
         rules-part : rulesAt (only (holds P) ps) e x ≡ rulesAt ps e x
         unfolding rulesAt
         rules-part =
-            rw (view-part, sites-only (holds P) ps)
-            (unfold viewOf in verdict-part _ _ _ _ _ (sites ps) (rights-read .first) (rights-read .second))
+            rw (situation-part, sites-only (holds P) ps)
+            (unfold situationOf in verdict-part _ _ _ _ _ (sites ps) (rights-read .first) (rights-read .second))
 
         -- The outcome.
         factor-outcome-part : factorOutcome (only (holds P) ps) e x ≡ factorOutcome ps e x
         unfolding factorOutcome
-        factor-outcome-part = rw (zone-to-part, view-part, rules-part)
+        factor-outcome-part = rw (zone-to-part, situation-part, rules-part)
 
   -- ── an entry of the part
 

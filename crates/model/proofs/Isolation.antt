@@ -42,7 +42,7 @@ module _ (P : Part) where
 
   -- A point's may become one that waits for NONE or a credential on the point's side.
   point-written : (i : ℕ) (p : PointState) →
-      onSide P access-credential (p .«waiting_credential») (member P access-point i) ≡ true → (x : Pair) →
+      onSide P access-credential (p .«waiting_credential» .0) (member P access-point i) ≡ true → (x : Pair) →
       isAt access-point i (x .0) ≡ true → pairInside P x ≡ true → pairInside P (x .0, pointBytes p) ≡ true
   unfolding pairInside waitInside
   point-written i p w x a h =
@@ -59,7 +59,7 @@ module _ (P : Part) where
       all (pairInside P) (apply o ps) ≡ true
   unfolding apply
   apply-inside o side ps h a =
-      all-write (pairInside P) (o .point .written) access-point (o .point .instance) _ _ (point-written _ (o .point .state) (h .waits))
+      all-write (pairInside P) (o .point .written) access-point (o .point .instance .0) _ _ (point-written _ (o .point .state) (h .waits))
       (all-write (pairInside P) (o .credential .written) access-credential _ _ _ (other-written access-credential _ refl _)
       (all-write (pairInside P) (o .«zone_to» .written) access-zone _ _ _ (other-written access-zone _ refl _)
       (all-write (pairInside P) (o .«zone_from» .written) access-zone _ _ ps (other-written access-zone _ refl _) a)))
@@ -70,7 +70,7 @@ module _ (P : Part) where
   fresh-wait s = go (eqb (kind s) access-point) _
     where
       go : (c : Bool) (t : List ℕ) →
-          not c || onSide P access-credential (pointStateOf (if c then pointBytes freshPoint else t) .«waiting_credential») (holds P s) ≡ true
+          not c || onSide P access-credential (pointStateOf (if c then pointBytes freshPoint else t) .«waiting_credential» .0) (holds P s) ≡ true
       go true t = rw (point-back freshPoint) (unfold freshPoint in none-side P access-credential _)
       go false t = refl
 

@@ -13,6 +13,11 @@ use Rattle.model.specs.declared.Outcome.{Outcome}
 
 -- ── tests
 
+-- What holds of two holds of the one that is taken.
+pub if-holds : {A : Type 0} (Q : A → Type 0) (c : Bool) (a b : A) → Q a → Q b → Q (if c then a else b)
+if-holds Q true a b p q = p
+if-holds Q false a b p q = q
+
 pub and-left : (a b : Bool) → a && b ≡ true → a ≡ true
 and-left true b e = refl
 and-left false b e = e

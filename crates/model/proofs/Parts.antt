@@ -20,7 +20,7 @@ isolationTests P g h =
 
 -- The part: point 1 and credential 1, with the zones and rights given.
 unfoldable pub part : (ℕ → Bool) → (ℕ → Bool) → Part
-part zones rights = record { zones = zones; points = λ i. eqb i 1; credentials = λ i. eqb i 1; rights = rights }
+part zones rights = record { zones = λ z. zones (z .0); points = λ p. eqb (p .0) 1; credentials = λ c. eqb (c .0) 1; rights = λ r. rights (r .0) }
 
 unfoldable pub nothing : ℕ → Bool
 nothing i = false

@@ -8,7 +8,7 @@ use lib.ListN.{length}
 use Rattle.octets.specs.Octets.{field, digits}
 use Rattle.octets.proofs.Laws.{field-digits}
 use Rattle.model.specs.Words.{bitOf}
-use Rattle.model.specs.Site.{reference}
+use Rattle.model.specs.Site.{zoneId, pointId, credentialId, reference}
 use Rattle.model.specs.State.{count, zoneBytes, pointStateOf, pointBytes, credentialStateOf, credentialBytes}
 use Rattle.model.specs.Entry.{answerBytes}
 use Rattle.model.specs.Lists.{eventIn, refusalIn, credentialIn}
@@ -38,7 +38,7 @@ point-back p =
       locked = locked-back (p .locked) i;
       «lock_time» = back 3 (p .«lock_time») i;
       «first_failure» = back 3 (p .«first_failure») i;
-      «waiting_credential» = back 3 (p .«waiting_credential») i;
+      «waiting_credential» = credentialId (back 3 (p .«waiting_credential» .0) i);
       «waiting_since» = back 3 (p .«waiting_since») i;
     }
 
@@ -49,11 +49,11 @@ credential-back c =
       uses = back 1 (c .uses) i;
       days = back 1 (c .days) i;
       «last_use» = back 3 (c .«last_use») i;
-      zone = back 3 (c .zone) i;
+      zone = zoneId (back 3 (c .zone .0) i);
       entered = back 3 (c .entered) i;
       «last_event» = back 1 (c .«last_event») i;
       disable = back 0 (c .disable) i;
-      «last_point» = back 3 (c .«last_point») i;
+      «last_point» = pointId (back 3 (c .«last_point» .0) i);
     }
 
 pub event-back : (a : Answer) → eventIn (answerBytes a) ≡ a .event
@@ -64,9 +64,9 @@ pub refusal-back : (a : Answer) → refusalIn (answerBytes a) ≡ a .refusal
 unfolding answerBytes field digits
 refusal-back a = back 0 (a .refusal)
 
-pub credential-named-back : (a : Answer) → credentialIn (answerBytes a) ≡ a .credential
+pub credential-named-back : (a : Answer) → credentialIn (answerBytes a) ≡ a .credential .0
 unfolding answerBytes field digits
-credential-named-back a = back 3 (a .credential)
+credential-named-back a = back 3 (a .credential .0)
 
 -- Every written record has 32 bytes, and every answer 16.
 pub length-zone : (n : ℕ) → length (zoneBytes n) ≡ 32

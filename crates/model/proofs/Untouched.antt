@@ -11,11 +11,12 @@ use Rattle.model.specs.Words.{if_then_else_, missing}
 use Rattle.model.specs.Site.{pointOf}
 use Rattle.model.specs.State.{Pair, Panel, panel, stateOf, find, write}
 use Rattle.model.specs.Entry.{entryOf, entries, answerBytes, operationOf, objectKind, inForm}
-use Rattle.model.specs.Effects.{answerTo, outcomeOf}
+use Rattle.model.specs.Effects.{answerWith, outcomeWith, outcomeOf}
 use Rattle.model.specs.Step.{noPoint, noCredential, noCount, noAnswer, unchanged, refuse, factorOutcome, countOutcome, adjusted, adjustOutcome, disableOutcome, serviceOutcome, workedOutcome, outcomeAs, entryOutcome, apply, after}
 use Rattle.model.specs.Calls.{freshState, runJournal}
 use Rattle.model.specs.Lists.{runOn, refusalIn}
 use Rattle.model.specs.Demands.{TurnedBack, Refused}
+use Rattle.model.proofs.Laws.{if-holds}
 use Rattle.model.proofs.RoundTrip.{refusal-back}
 use Rattle.model.proofs.Runs.{after-append}
 use Rattle.model.proofs.Entries.{length-entries, state-at, answer-at}
@@ -33,22 +34,18 @@ turned-back site state r = (λ w. rw w, λ w. (rw w, rw w))
 Refusal : Outcome → Type 0
 Refusal o = eqb (o .answer .refusal) 0 ≡ false → o ≡ refuse (o .answer .refusal)
 
-refusal-if : (c : Bool) (o u : Outcome) → Refusal o → Refusal u → Refusal (if c then o else u)
-refusal-if true o u p q = p
-refusal-if false o u p q = q
-
 refusal-refuse : (n : ℕ) → Refusal (refuse n)
 unfolding Refusal refuse unchanged
 refusal-refuse n h = refl
 
 -- No worked operation refuses, but for an adjustment to a count that is too large.
 refusal-worked : (o : Operation) (ps : Panel) (e : Entry) (x : Pair) → Refusal (workedOutcome o ps e x)
-unfolding Refusal factorOutcome unchanged outcomeOf answerTo countOutcome disableOutcome serviceOutcome adjustOutcome
+unfolding Refusal factorOutcome unchanged outcomeOf outcomeWith answerWith countOutcome disableOutcome serviceOutcome adjustOutcome
 refusal-worked Factor ps e x =
-    refusal-if (pointOf (x .0) .«out_of_service») (unchanged _) (outcomeOf _ e _) (λ h. cc) (λ h. cc)
+    if-holds Refusal (pointOf (x .0) .«out_of_service») (unchanged _) (outcomeOf _ e _) (λ h. cc) (λ h. cc)
 refusal-worked SetCount ps e x = λ h. cc
 refusal-worked AdjustCount ps e x =
-    refusal-if (ltb _ (adjusted _ (e .amount))) (refuse _) (countOutcome e _) (refusal-refuse _) (λ h. cc)
+    if-holds Refusal (ltb _ (adjusted _ (e .amount))) (refuse _) (countOutcome e _) (refusal-refuse _) (λ h. cc)
 refusal-worked SetDisable ps e x = λ h. cc
 refusal-worked SetService ps e x = λ h. cc
 refusal-worked Unknown ps e x = refusal-refuse _
@@ -59,8 +56,8 @@ refusal-entry ps e = go (operationOf (e .operation))
   where
     go : (o : Operation) → Refusal (outcomeAs o ps e (find (objectKind o) (e .instance) ps))
     go o =
-        refusal-if (not (inForm o e)) (refuse _) (if missing (find (objectKind o) (e .instance) ps .0) then refuse _ else _) (refusal-refuse _)
-        (refusal-if (missing (find (objectKind o) (e .instance) ps .0)) (refuse _) (workedOutcome o ps e _) (refusal-refuse _) (refusal-worked o ps e _))
+        if-holds Refusal (not (inForm o e)) (refuse _) (if missing (find (objectKind o) (e .instance) ps .0) then refuse _ else _) (refusal-refuse _)
+        (if-holds Refusal (missing (find (objectKind o) (e .instance) ps .0)) (refuse _) (workedOutcome o ps e _) (refusal-refuse _) (refusal-worked o ps e _))
 
 -- A refusal writes nothing.
 apply-refuse : (n : ℕ) (ps : Panel) → apply (refuse n) ps ≡ ps

@@ -11,14 +11,15 @@ use Rattle.octets.specs.Octets.{field, digits, same}
 use Rattle.model.specs.Words.{if_then_else_, all, zeros, missing, bitOf}
 use Rattle.model.specs.Numbers as n
 use Rattle.model.specs.Numbers.{NONE}
-use Rattle.model.specs.Site.{kind, instance, reference, pointOf, isAt, findIn}
+use Rattle.model.specs.Site.{credentialId, kind, instance, reference, pointOf, isAt, findIn}
 use Rattle.model.specs.Accept.{clear, exists, noneOrExists, inRange, credentialInRange, namesExist}
 use Rattle.model.specs.State.{Pair, Panel, findBy, find, seek, zoneBytes, pointStateOf, pointBytes, credentialStateOf, credentialBytes, freshPoint, freshCredential, freshRecord, zoneWell, failuresWell, pointWell, credentialWell, recordWell}
 use Rattle.model.specs.Checks.{identifying, confirming, factorFor, credentialRead}
-use Rattle.model.proofs.Laws.{and-left, and-right}
+use Rattle.model.proofs.Laws.{if-holds, and-left, and-right}
 use Rattle.model.proofs.RoundTrip.{point-back, credential-back}
 use Rattle.model.proofs.Flat.{freshPanel}
 use Rattle.model.proofs.Border.{kind-at}
+use Rattle.model.specs.declared.CredentialId.{CredentialId}
 use Rattle.model.specs.declared.PointState.{PointState}
 use Rattle.model.specs.declared.CredentialState.{CredentialState}
 use Rattle.model.specs.declared.Entry.{Entry}
@@ -38,12 +39,6 @@ exists-fits ss k i h = go (eqb i NONE)
     go : (c : Bool) → c || exists ss k i ≡ true
     go true = refl
     go false = h
-
--- So is either of two such references.
-pub if-fits : (c : Bool) (ss : List (List ℕ)) (k i j : ℕ) → noneOrExists ss k i ≡ true → noneOrExists ss k j ≡ true →
-    noneOrExists ss k (if c then i else j) ≡ true
-if-fits true ss k i j h g = h
-if-fits false ss k i j h g = g
 
 -- No failures are below every most.
 pub no-failures : (most : ℕ) → failuresWell 0 most ≡ true
@@ -66,15 +61,15 @@ if-fails false most a b h g = g refl
 
 -- A point's state; `most` is the point's most failures. A locked point waits for nobody.
 pub record PointSound (ss : List (List ℕ)) (most : ℕ) (p : PointState) : Type 0 where
-  pub waits : noneOrExists ss n.access-credential (p .«waiting_credential») ≡ true
-  pub free : not (p .locked) || eqb (p .«waiting_credential») NONE ≡ true
+  pub waits : noneOrExists ss n.access-credential (p .«waiting_credential» .0) ≡ true
+  pub free : not (p .locked) || eqb (p .«waiting_credential» .0) NONE ≡ true
   pub fails : failuresWell (p .failures) most ≡ true
 
 -- A credential's state.
 pub record CredentialSound (ss : List (List ℕ)) (c : CredentialState) : Type 0 where
   pub disabled : leb (c .disable) n.largest-disable ≡ true
-  pub inside : noneOrExists ss n.access-zone (c .zone) ≡ true
-  pub seen : noneOrExists ss n.access-point (c .«last_point») ≡ true
+  pub inside : noneOrExists ss n.access-zone (c .zone .0) ≡ true
+  pub seen : noneOrExists ss n.access-point (c .«last_point» .0) ≡ true
 
 -- The fresh state of a point is such a state.
 pub fresh-point : (ss : List (List ℕ)) (most : ℕ) → PointSound ss most freshPoint
@@ -223,14 +218,14 @@ module _ (ss : List (List ℕ)) (ps : Panel) (well : all (recordWell ss) ps ≡ 
 
 module _ (ss : List (List ℕ)) (names : all (namesExist ss) ss ≡ true) where
   -- A point's Zone_To is NONE or exists.
-  pub to-fits : (i : ℕ) → noneOrExists ss n.access-zone (pointOf (findIn (isAt n.access-point i) ss) .«zone_to») ≡ true
+  pub to-fits : (i : ℕ) → noneOrExists ss n.access-zone (pointOf (findIn (isAt n.access-point i) ss) .«zone_to» .0) ≡ true
   unfolding namesExist
   to-fits i =
-      found-in-has (λ s. noneOrExists ss n.access-zone (pointOf s .«zone_to») ≡ true) (namesExist ss) (isAt n.access-point i)
+      found-in-has (λ s. noneOrExists ss n.access-zone (pointOf s .«zone_to» .0) ≡ true) (namesExist ss) (isAt n.access-point i)
       (unfold noneOrExists pointOf reference in refl) some ss names
     where
       some : (s : List ℕ) → isAt n.access-point i s ≡ true → namesExist ss s ≡ true →
-          noneOrExists ss n.access-zone (pointOf s .«zone_to») ≡ true
+          noneOrExists ss n.access-zone (pointOf s .«zone_to» .0) ≡ true
       some s a w =
           let f = rw (kind-at n.access-point i s a) at w in
           search and-left
@@ -251,22 +246,22 @@ module _ (ss : List (List ℕ)) (names : all (namesExist ss) ss ≡ true) where
         some s a w =
             let k : kind s ≡ n.authentication-factor = eqb-true (kind s) n.authentication-factor (search and-left) in
             let f = rw k at w in
-            if-fits (missing s) ss n.access-credential NONE (instance s) (none-fits ss n.access-credential)
+            if-holds (λ i. noneOrExists ss n.access-credential i ≡ true) (missing s) NONE (instance s) (none-fits ss n.access-credential)
             (exists-fits ss n.access-credential (instance s) f)
 
     -- The credential that a read is about is NONE or exists, if the point waits for such a one.
-    pub number-fits : (c : ℕ) → noneOrExists ss n.access-credential c ≡ true →
-        noneOrExists ss n.access-credential (credentialRead c (factorFor c e ss)) ≡ true
+    pub number-fits : (c : CredentialId) → noneOrExists ss n.access-credential (c .0) ≡ true →
+        noneOrExists ss n.access-credential (credentialRead c (factorFor c e ss) .0) ≡ true
     unfolding credentialRead factorFor identified
-    number-fits c h = go (eqb c NONE)
+    number-fits c h = go (eqb (c .0) NONE)
       where
         confirmed : List ℕ
         confirmed = findIn (confirming c (e .argument) (e .value)) ss
 
         go : (b : Bool) →
             noneOrExists ss n.access-credential
-            (if not b then c else if missing (if b then identified else confirmed) then NONE
-            else instance (if b then identified else confirmed)) ≡ true
+            ((if not b then c else credentialId (if missing (if b then identified else confirmed) then NONE
+            else instance (if b then identified else confirmed))) .0) ≡ true
         go true = factor-fits
         go false = h
 

@@ -9,18 +9,20 @@ use Rattle.octets.specs.Octets.{field}
 use Rattle.model.specs.Words.{if_then_else_, all, missing}
 use Rattle.model.specs.Numbers as n
 use Rattle.model.specs.Numbers.{NONE}
-use Rattle.model.specs.Site.{pointOf, isAt, findIn}
+use Rattle.model.specs.Site.{zoneId, credentialId, pointOf, isAt, findIn}
 use Rattle.model.specs.Accept.{exists, noneOrExists, namesExist}
 use Rattle.model.specs.State.{Pair, Panel, sites, find, store, write, zoneBytes, pointStateOf, pointBytes, credentialStateOf, credentialBytes, failuresWell, recordWell}
 use Rattle.model.specs.Entry.{operationOf, objectKind, inForm}
 use Rattle.model.specs.Checks.{relinquished, stillLocked, authenticationOf, intoZone, eventOf}
-use Rattle.model.specs.Effects.{isFailure, failuresBefore, failuresWith, locksOut, pointAfter, zoneAfter, credentialAfter, outcomeOf}
-use Rattle.model.specs.Step.{noPoint, noCredential, unchanged, refuse, factorRead, numberRead, credentialAt, viewOf, rulesAt, factorOutcome, countOutcome, adjusted, adjustOutcome, disableAfter, disableOutcome, locks, serviceAfter, serviceOutcome, workedOutcome, outcomeAs, entryOutcome, apply, after}
-use Rattle.model.proofs.Laws.{and-left, and-right, or-right, find-in, all-write, sites-write, sites-apply}
+use Rattle.model.specs.Effects.{isFailure, failuresBefore, failuresWith, locksOut, pointAfter, zoneAfter, credentialAfter, outcomeWith, outcomeOf}
+use Rattle.model.specs.Step.{noPoint, noCredential, unchanged, refuse, factorRead, numberRead, credentialAt, situationOf, rulesAt, factorOutcome, countOutcome, adjusted, adjustOutcome, disableAfter, disableOutcome, locks, serviceAfter, serviceOutcome, workedOutcome, outcomeAs, entryOutcome, apply, after}
+use Rattle.model.proofs.Laws.{if-holds, and-left, and-right, or-right, find-in, all-write, sites-write, sites-apply}
 use Rattle.model.proofs.Border.{kind-at}
-use Rattle.model.proofs.Well.{none-fits, exists-fits, if-fits, no-failures, if-fails, PointSound, CredentialSound, fresh-point, fresh-credential, zone-well, point-well, credential-well, point-found, credential-found, credential-sought, to-fits, number-fits}
+use Rattle.model.proofs.Well.{none-fits, exists-fits, no-failures, if-fails, PointSound, CredentialSound, fresh-point, fresh-credential, zone-well, point-well, credential-well, point-found, credential-found, credential-sought, to-fits, number-fits}
+use Rattle.model.specs.declared.ZoneId.{ZoneId}
+use Rattle.model.specs.declared.CredentialId.{CredentialId}
 use Rattle.model.specs.declared.PointState.{PointState}
-use Rattle.model.specs.declared.View.{View}
+use Rattle.model.specs.declared.Situation.{Situation}
 use Rattle.model.specs.declared.Verdict.{Verdict}
 use Rattle.model.specs.declared.Entry.{Entry}
 use Rattle.model.specs.declared.Answer.{Answer}
@@ -30,15 +32,15 @@ use Rattle.model.specs.declared.Operation.the-variants.{Factor, SetCount
 
 -- ── the states that a factor read leaves, for every view and event
 
--- The view has sound states, and its references are NONE or exist.
-record Seen (ss : List (List ℕ)) (v : View) : Type 0 where
+-- The situation has sound states, and its references are NONE or exist.
+record Seen (ss : List (List ℕ)) (v : Situation) : Type 0 where
   point : PointSound ss (v .point .«most_failures») (v .«point_state»)
-  to : noneOrExists ss n.access-zone (v .point .«zone_to») ≡ true
-  number : noneOrExists ss n.access-credential (v .number) ≡ true
+  to : noneOrExists ss n.access-zone (v .point .«zone_to» .0) ≡ true
+  number : noneOrExists ss n.access-credential (v .number .0) ≡ true
   credential : CredentialSound ss (v .«credential_state»)
 
 -- A point that is still locked answers 161.
-locked-event : (v : View) (rules : Verdict) (e : Entry) → stillLocked v e ≡ true → eventOf v rules e ≡ n.denied-lockout
+locked-event : (v : Situation) (rules : Verdict) (e : Entry) → stillLocked v e ≡ true → eventOf v rules e ≡ n.denied-lockout
 unfolding eventOf authenticationOf
 locked-event v rules e h = rw h
 
@@ -56,21 +58,21 @@ not-failing k x a b = go (eqb x k) refl
     go true e = cc (eqb-true x k e)
     go false e = refl
 
-module _ (ss : List (List ℕ)) (v : View) (e : Entry) (x : ℕ) (h : Seen ss v) where
+module _ (ss : List (List ℕ)) (v : Situation) (e : Entry) (x : ℕ) (h : Seen ss v) where
   most : ℕ
   most = v .point .«most_failures»
 
   -- A point that is locked afterwards waits for nobody: a failure locked it, or it was locked before.
   free-after : (stillLocked v e ≡ true → x ≡ n.denied-lockout) →
-      not (pointAfter v e x .locked) || eqb (pointAfter v e x .«waiting_credential») NONE ≡ true
+      not (pointAfter v e x .locked) || eqb (pointAfter v e x .«waiting_credential» .0) NONE ≡ true
   unfolding pointAfter locksOut isFailure stillLocked failing
   free-after l = go (locksOut v e x) (stillLocked v e) refl refl
     where
       go : (c d : Bool) → locksOut v e x ≡ c → stillLocked v e ≡ d →
           not (c || d)
           || eqb
-          (if eqb x n.no-event then v .number else
-          if eqb x n.denied-lockout then v .«point_state» .«waiting_credential» else NONE) NONE ≡ true
+          ((if eqb x n.no-event then v .number else
+          if eqb x n.denied-lockout then v .«point_state» .«waiting_credential» else credentialId NONE) .0) NONE ≡ true
       go true d o s =
           let f : isFailure v x ≡ true = search and-left in
           let g : failing x ≡ true = and-right (not (eqb (v .point .«most_failures») 0)) (failing x) f in
@@ -108,9 +110,9 @@ module _ (ss : List (List ℕ)) (v : View) (e : Entry) (x : ℕ) (h : Seen ss v)
   point-after l =
       record {
         waits =
-            if-fits (eqb x n.no-event) ss n.access-credential (v .number) _ (h .number)
-            (if-fits (eqb x n.denied-lockout) ss n.access-credential (v .«point_state» .«waiting_credential») NONE (h .point .waits)
-            (none-fits ss n.access-credential));
+            if-holds (λ (c : CredentialId). noneOrExists ss n.access-credential (c .0) ≡ true) (eqb x n.no-event) (v .number) _ (h .number)
+            (if-holds (λ (c : CredentialId). noneOrExists ss n.access-credential (c .0) ≡ true) (eqb x n.denied-lockout) (v .«point_state» .«waiting_credential»)
+            (credentialId NONE) (h .point .waits) (none-fits ss n.access-credential));
         free = free-after l;
         fails = fails-after;
       }
@@ -122,24 +124,22 @@ module _ (ss : List (List ℕ)) (v : View) (e : Entry) (x : ℕ) (h : Seen ss v)
       record {
         disabled = h .credential .disabled;
         inside =
-            if-fits (not (eqb x n.granted)) ss n.access-zone (v .«credential_state» .zone) _ (h .credential .inside)
-            (if-fits (intoZone v) ss n.access-zone (v .point .«zone_to») _ (h .to)
-            (if-fits (not (eqb (v .point .«zone_from») NONE)) ss n.access-zone NONE (v .«credential_state» .zone)
+            if-holds zone-fits (not (eqb x n.granted)) (v .«credential_state» .zone) _ (h .credential .inside)
+            (if-holds zone-fits (intoZone v) (v .point .«zone_to») _ (h .to)
+            (if-holds zone-fits (not (eqb (v .point .«zone_from» .0) NONE)) (zoneId NONE) (v .«credential_state» .zone)
             (none-fits ss n.access-zone) (h .credential .inside)));
         seen = p;
       }
+    where
+      zone-fits : ZoneId → Type 0
+      zone-fits z = noneOrExists ss n.access-zone (z .0) ≡ true
 
 -- ── outcomes that leave sound states
 
 -- The point's state is sound for the most failures of the point that the outcome names.
 record Sound (ss : List (List ℕ)) (o : Outcome) : Type 0 where
-  point : PointSound ss (pointOf (findIn (isAt n.access-point (o .point .instance)) ss) .«most_failures») (o .point .state)
+  point : PointSound ss (pointOf (findIn (isAt n.access-point (o .point .instance .0)) ss) .«most_failures») (o .point .state)
   credential : CredentialSound ss (o .credential .state)
-
--- Either of two such outcomes is one.
-sound-if : (c : Bool) (ss : List (List ℕ)) (o u : Outcome) → Sound ss o → Sound ss u → Sound ss (if c then o else u)
-sound-if true ss o u h g = h
-sound-if false ss o u h g = g
 
 -- The credential's state that stands where none is written.
 unwritten : (ss : List (List ℕ)) → CredentialSound ss (noCredential .state)
@@ -160,14 +160,14 @@ sound-count ss e counted = record { point = fresh-point ss _; credential = unwri
 sound-adjust : (ss : List (List ℕ)) (e : Entry) (counted : ℕ) → Sound ss (adjustOutcome e counted)
 unfolding adjustOutcome refuse
 sound-adjust ss e counted =
-    sound-if (ltb n.largest-count (adjusted counted (e .amount))) ss (refuse n.refused-count)
+    if-holds (Sound ss) (ltb n.largest-count (adjusted counted (e .amount))) (refuse n.refused-count)
     (countOutcome e (adjusted counted (e .amount))) (sound-unchanged ss _) (sound-count ss e (adjusted counted (e .amount)))
 
 -- The outcome of a factor read at a point that exists.
-sound-outcome : (ss : List (List ℕ)) (v : View) (e : Entry) (x : ℕ) → Seen ss v →
+sound-outcome : (ss : List (List ℕ)) (v : Situation) (e : Entry) (x : ℕ) → Seen ss v →
     (stillLocked v e ≡ true → x ≡ n.denied-lockout) → v .point ≡ pointOf (findIn (isAt n.access-point (e .instance)) ss) →
     noneOrExists ss n.access-point (e .instance) ≡ true → Sound ss (outcomeOf v e x)
-unfolding outcomeOf
+unfolding outcomeOf outcomeWith
 sound-outcome ss v e x h l p i =
     record { point = rw (← p) (point-after ss v e x h l); credential = credential-after ss v e x h i }
 
@@ -178,12 +178,12 @@ unfolding serviceAfter
 service-after ss most e p h =
     record {
       waits =
-          if-fits (locks e) ss n.access-credential NONE (p .«waiting_credential») (none-fits ss n.access-credential) (h .waits);
+          if-holds (λ (c : CredentialId). noneOrExists ss n.access-credential (c .0) ≡ true) (locks e) (credentialId NONE) (p .«waiting_credential») (none-fits ss n.access-credential) (h .waits);
       free = go (locks e);
       fails = if-fails (locks e) most (p .failures) 0 (λ l. h .fails) (λ l. no-failures most);
     }
   where
-    go : (c : Bool) → not c || eqb (if c then NONE else p .«waiting_credential») NONE ≡ true
+    go : (c : Bool) → not c || eqb ((if c then credentialId NONE else p .«waiting_credential») .0) NONE ≡ true
     go true = refl
     go false = refl
 
@@ -223,9 +223,9 @@ module _ (ss : List (List ℕ)) (ps : Panel) (of-site : sites ps ≡ ss) (well :
 
   module _ (names : all (namesExist ss) ss ≡ true) where
     -- The view of a factor read.
-    view-seen : Seen ss (viewOf ps e (find n.access-point (e .instance) ps))
-    unfolding viewOf numberRead factorRead credentialAt
-    view-seen =
+    situation-seen : Seen ss (situationOf ps e (find n.access-point (e .instance) ps))
+    unfolding situationOf numberRead factorRead credentialAt
+    situation-seen =
         record {
           point = point-found ss ps well (e .instance);
           to = rw (found-site n.access-point (e .instance)) (to-fits ss names (e .instance));
@@ -236,12 +236,12 @@ module _ (ss : List (List ℕ)) (ps : Panel) (of-site : sites ps ≡ ss) (well :
     -- Operation 1.
     sound-factor : missing (find n.access-point (e .instance) ps .0) ≡ false →
         Sound ss (factorOutcome ps e (find n.access-point (e .instance) ps))
-    unfolding factorOutcome viewOf
+    unfolding factorOutcome situationOf
     sound-factor g =
         let p = find n.access-point (e .instance) ps in
-        let v = viewOf ps e p in
-        sound-if (pointOf (p .0) .«out_of_service») ss (unchanged _) (outcomeOf v e _) (sound-unchanged ss _)
-        (sound-outcome ss v e _ view-seen (locked-event v (rulesAt ps e p) e)
+        let v = situationOf ps e p in
+        if-holds (Sound ss) (pointOf (p .0) .«out_of_service») (unchanged _) (outcomeOf v e _) (sound-unchanged ss _)
+        (sound-outcome ss v e _ situation-seen (locked-event v (rulesAt ps e p) e)
         (ap pointOf (found-site n.access-point (e .instance))) (found-fits n.access-point (e .instance) g))
 
     -- Every operation, at an object that is found.
@@ -309,16 +309,16 @@ apply-well : (ss : List (List ℕ)) (o : Outcome) (ps : Panel) → sites ps ≡ 
     all (recordWell ss) (apply o ps) ≡ true
 unfolding apply Passes
 apply-well ss o ps of-site h a =
-    all-write-found (recordWell ss) n.access-point (o .point .instance) (pointBytes (o .point .state)) (o .point .written) _
+    all-write-found (recordWell ss) n.access-point (o .point .instance .0) (pointBytes (o .point .state)) (o .point .written) _
     (simp (sites-write, of-site)
-    (λ p. point-well ss _ (o .point .state) (kind-at n.access-point (o .point .instance) _ p) (h .point)))
-    (all-write (recordWell ss) (o .credential .written) n.access-credential (o .credential .instance)
+    (λ p. point-well ss _ (o .point .state) (kind-at n.access-point (o .point .instance .0) _ p) (h .point)))
+    (all-write (recordWell ss) (o .credential .written) n.access-credential (o .credential .instance .0)
     (credentialBytes (o .credential .state)) _
-    (λ x p w. credential-well ss (x .0) (o .credential .state) (kind-at n.access-credential (o .credential .instance) (x .0) p) (h .credential))
-    (all-write (recordWell ss) (o .«zone_to» .written) n.access-zone (o .«zone_to» .instance) (zoneBytes (o .«zone_to» .count)) _
-    (λ x p w. zone-well ss (x .0) (o .«zone_to» .count) (kind-at n.access-zone (o .«zone_to» .instance) (x .0) p))
-    (all-write (recordWell ss) (o .«zone_from» .written) n.access-zone (o .«zone_from» .instance) (zoneBytes (o .«zone_from» .count)) ps
-    (λ x p w. zone-well ss (x .0) (o .«zone_from» .count) (kind-at n.access-zone (o .«zone_from» .instance) (x .0) p)) a)))
+    (λ x p w. credential-well ss (x .0) (o .credential .state) (kind-at n.access-credential (o .credential .instance .0) (x .0) p) (h .credential))
+    (all-write (recordWell ss) (o .«zone_to» .written) n.access-zone (o .«zone_to» .instance .0) (zoneBytes (o .«zone_to» .count)) _
+    (λ x p w. zone-well ss (x .0) (o .«zone_to» .count) (kind-at n.access-zone (o .«zone_to» .instance .0) (x .0) p))
+    (all-write (recordWell ss) (o .«zone_from» .written) n.access-zone (o .«zone_from» .instance .0) (zoneBytes (o .«zone_from» .count)) ps
+    (λ x p w. zone-well ss (x .0) (o .«zone_from» .count) (kind-at n.access-zone (o .«zone_from» .instance .0) (x .0) p)) a)))
 
 -- One entry leaves well-formed records.
 pub step-well : (ss : List (List ℕ)) → all (namesExist ss) ss ≡ true → (e : Entry) (ps : Panel) → sites ps ≡ ss →

@@ -4,10 +4,10 @@ use mathlib.Core.List.{List, [], _∷_}
 use mathlib.Core.Bool.{Bool, true, false, not, _&&_, _||_}
 use lib.Dec.{ltb, leb, eqb}
 use lib.ListN.{take, drop}
-use Rattle.octets.specs.Octets.{field, same}
+use Rattle.octets.specs.Octets.{same}
 use Rattle.model.specs.Words.{if_then_else_, any, zeros, within, missing}
-use Rattle.model.specs.Numbers.{NONE, minutes-of-day, access-zone, access-point, access-rule, access-credential, authentication-factor, role-identifying, largest-disable, largest-threat}
-use Rattle.model.specs.Site.{kind, instance, pointOf, everywhere, locationKind, weekdays, location, fromMinute, toMinute, role, factorDisable, format, value, isAt, findIn}
+use Rattle.model.specs.Numbers.{NONE, minutes-of-day, access-zone, access-point, access-rule, access-credential, authentication-factor, passback-soft, mode-deny-all, two-factors, role-identifying, role-confirming, factor-destroyed, format-error, largest-disable, largest-threat}
+use Rattle.model.specs.Site.{kind, flags, instance, zoneOf, pointOf, credentialOf, disableGiven, everywhere, locationKind, weekdays, location, fromMinute, toMinute, role, factorDisable, format, value, isAt, findIn}
 
 -- ── refusal 2: "a record's kind, field or spare byte out of range". "Enumerations and bounds given here are the field ranges; an
 -- instance is real unless NONE is allowed."
@@ -26,33 +26,36 @@ realOrNone i = leb i NONE
 
 -- A zone: one flag; passback 0 to 2.
 unfoldable pub zoneInRange : List ℕ → Bool
-zoneInRange s = ltb (field 1 1 s) 2 && leb (field 2 1 s) 2 && clear 3 1 s && clear 20 12 s
+zoneInRange s = ltb (flags s) 2 && leb (zoneOf s .passback) passback-soft && clear 3 1 s && clear 20 12 s
 
 -- A point: five flags; mode 0 to 2; factors wanted 1 or 2; "Zone_To, Zone_From (NONE allowed, never the same zone: refusal 2)";
 -- threat level 0..100.
 unfoldable pub pointInRange : List ℕ → Bool
 pointInRange s =
-    ltb (field 1 1 s) 32 && leb (field 2 1 s) 2 && within 1 2 (field 3 1 s) && realOrNone (field 8 4 s)
-    && realOrNone (field 12 4 s) && (eqb (field 8 4 s) NONE || not (eqb (field 8 4 s) (field 12 4 s)))
-    && leb (field 16 1 s) largest-threat && clear 28 4 s
+    ltb (flags s) 32 && leb (pointOf s .mode) mode-deny-all && within 1 two-factors (pointOf s .«factors_wanted»)
+    && realOrNone (pointOf s .«zone_to» .0) && realOrNone (pointOf s .«zone_from» .0)
+    && (eqb (pointOf s .«zone_to» .0) NONE || not (eqb (pointOf s .«zone_to» .0) (pointOf s .«zone_from» .0)))
+    && leb (pointOf s .«threat_level») largest-threat && clear 28 4 s
 
 -- A rule: four flags; seven days; "from ≤ to ≤ 1,440. Everywhere: 2 and 8 are zero."
 unfoldable pub ruleInRange : List ℕ → Bool
 ruleInRange s =
-    ltb (field 1 1 s) 16 && ltb (weekdays s) 128
-    && (if everywhere s then eqb (locationKind s) 0 && eqb (location s) 0 else within 1 2 (locationKind s) && real (location s))
+    ltb (flags s) 16 && ltb (weekdays s) 128
+    && (if everywhere s then eqb (locationKind s) 0 && eqb (location s) 0
+    else within access-zone access-point (locationKind s) && real (location s))
     && leb (fromMinute s) (toMinute s) && leb (toMinute s) minutes-of-day && clear 16 16 s
 
 -- A credential: five flags; disable 0 to 3; threat authority 0..100; rights numbers or NONE.
 unfoldable pub credentialInRange : List ℕ → Bool
 credentialInRange s =
-    ltb (field 1 1 s) 32 && leb (field 2 1 s) largest-disable && leb (field 3 1 s) largest-threat && clear 22 2 s
-    && realOrNone (field 24 4 s) && realOrNone (field 28 4 s)
+    ltb (flags s) 32 && leb (disableGiven s) largest-disable && leb (credentialOf s .«threat_authority») largest-threat
+    && clear 22 2 s && realOrNone (credentialOf s .«first_rights» .0) && realOrNone (credentialOf s .«second_rights» .0)
 
 -- A factor: no flag; role 1 or 2; disable 0 to 5; format 2..255.
 unfoldable pub factorInRange : List ℕ → Bool
 factorInRange s =
-    clear 1 1 s && within 1 2 (role s) && leb (factorDisable s) 5 && leb 2 (format s) && clear 9 7 s && clear 24 8 s
+    eqb (flags s) 0 && within role-identifying role-confirming (role s) && leb (factorDisable s) factor-destroyed
+    && ltb format-error (format s) && clear 9 7 s && clear 24 8 s
 
 -- "a record's kind, field or spare byte": any of the five kinds, with a real instance.
 unfoldable pub inRange : List ℕ → Bool
@@ -102,7 +105,7 @@ noneOrExists ss k i = eqb i NONE || exists ss k i
 unfoldable pub namesExist : List (List ℕ) → List ℕ → Bool
 namesExist ss s =
     if eqb (kind s) access-point then
-    noneOrExists ss access-zone (pointOf s .«zone_to») && noneOrExists ss access-zone (pointOf s .«zone_from»)
+    noneOrExists ss access-zone (pointOf s .«zone_to» .0) && noneOrExists ss access-zone (pointOf s .«zone_from» .0)
     else if eqb (kind s) access-rule then everywhere s || exists ss (locationKind s) (location s)
     else if eqb (kind s) authentication-factor then exists ss access-credential (instance s)
     else true

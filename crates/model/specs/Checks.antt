@@ -7,8 +7,12 @@ use Rattle.octets.specs.Octets.{same}
 use Rattle.model.specs.Words.{if_then_else_, any, bit, missing}
 use Rattle.model.specs.Numbers as n
 use Rattle.model.specs.Numbers.{NONE, NEVER, UNLIMITED}
-use Rattle.model.specs.Site.{kind, instance, enabled, negative, always, everywhere, locationKind, weekdays, location, fromMinute, toMinute, role, format, value, isAt, findIn}
-use Rattle.model.specs.declared.View.{View}
+use Rattle.model.specs.Site.{credentialId, kind, instance, enabled, negative, always, everywhere, locationKind, weekdays, location, fromMinute, toMinute, role, format, value, isAt, findIn}
+use Rattle.model.specs.declared.ZoneId.{ZoneId}
+use Rattle.model.specs.declared.PointId.{PointId}
+use Rattle.model.specs.declared.CredentialId.{CredentialId}
+use Rattle.model.specs.declared.RightsId.{RightsId}
+use Rattle.model.specs.declared.Situation.{Situation}
 use Rattle.model.specs.declared.Verdict.{Verdict}
 use Rattle.model.specs.declared.Entry.{Entry}
 use Rattle.model.specs.declared.Authentication.{Authentication}
@@ -22,23 +26,23 @@ elapsed now since = now - since
 -- ── step 1: "Locked, relinquish set, elapsed ≥ it: unlock, failures 0, mark 64. Still locked: 161."
 
 -- "Locked, relinquish set, elapsed ≥ it".
-unfoldable pub relinquished : View → Entry → Bool
+unfoldable pub relinquished : Situation → Entry → Bool
 relinquished v e =
     v .«point_state» .locked && not (eqb (v .point .«lockout_relinquish») 0)
     && leb (v .point .«lockout_relinquish») (elapsed (e .time) (v .«point_state» .«lock_time»))
 
 -- "Still locked".
-unfoldable pub stillLocked : View → Entry → Bool
+unfoldable pub stillLocked : Situation → Entry → Bool
 stillLocked v e = v .«point_state» .locked && not (relinquished v e)
 
 -- ── step 2: "Waiting, and elapsed > a set timeout: 131. Format 1: 148." "Waiting is as the entry found it."
 
 -- "Waiting".
-unfoldable pub waiting : View → Bool
-waiting v = not (eqb (v .«point_state» .«waiting_credential») NONE)
+unfoldable pub waiting : Situation → Bool
+waiting v = not (eqb (v .«point_state» .«waiting_credential» .0) NONE)
 
 -- "Waiting, and elapsed > a set timeout".
-unfoldable pub overdue : View → Entry → Bool
+unfoldable pub overdue : Situation → Entry → Bool
 overdue v e =
     waiting v && not (eqb (v .point .«factor_timeout») 0)
     && ltb (v .point .«factor_timeout») (elapsed (e .time) (v .«point_state» .«waiting_since»))
@@ -54,18 +58,19 @@ unfoldable pub identifying : ℕ → List ℕ → List ℕ → Bool
 identifying form read s = eqb (kind s) n.authentication-factor && (eqb (role s) n.role-identifying && presents form read s)
 
 -- "confirming factor of that credential".
-unfoldable pub confirming : ℕ → ℕ → List ℕ → List ℕ → Bool
-confirming c form read s = isAt n.authentication-factor c s && (eqb (role s) n.role-confirming && presents form read s)
+unfoldable pub confirming : CredentialId → ℕ → List ℕ → List ℕ → Bool
+confirming c form read s = isAt n.authentication-factor (c .0) s && (eqb (role s) n.role-confirming && presents form read s)
 
 -- The factor that a point looks for that waits for the credential `c`, or for nobody.
-unfoldable pub factorFor : ℕ → Entry → List (List ℕ) → List ℕ
+unfoldable pub factorFor : CredentialId → Entry → List (List ℕ) → List ℕ
 factorFor c e ss =
-    if eqb c NONE then findIn (identifying (e .argument) (e .value)) ss
+    if eqb (c .0) NONE then findIn (identifying (e .argument) (e .value)) ss
     else findIn (confirming c (e .argument) (e .value)) ss
 
 -- "the credential waited for, else the one that step 3 matched, else NONE"
-unfoldable pub credentialRead : ℕ → List ℕ → ℕ
-credentialRead c factor = if not (eqb c NONE) then c else if missing factor then NONE else instance factor
+unfoldable pub credentialRead : CredentialId → List ℕ → CredentialId
+credentialRead c factor =
+    if not (eqb (c .0) NONE) then c else credentialId (if missing factor then NONE else instance factor)
 
 -- "Disabled factor: 1→147, 2→143, 3→144, 4→145, 5→146."
 unfoldable pub disabledFactor : ℕ → ℕ
@@ -79,11 +84,11 @@ disabledFactor d =
 -- ── step 4: "Not waiting and two wanted: wait from now, event 0."
 
 -- "Not waiting and two wanted".
-unfoldable pub firstOfTwo : View → Bool
+unfoldable pub firstOfTwo : Situation → Bool
 firstOfTwo v = not (waiting v) && eqb (v .point .«factors_wanted») n.two-factors
 
 -- What steps 1 to 4 find, and the order in which it counts: `next` follows where none of the steps gives an event.
-unfoldable pub authenticationOf : View → Entry → Authentication
+unfoldable pub authenticationOf : Situation → Entry → Authentication
 authenticationOf v e =
     record {
       locked = stillLocked v e;
@@ -117,7 +122,7 @@ inactive last days time =
     not (eqb last NEVER) && not (eqb days UNLIMITED) && ltb (days * n.seconds-of-day) (elapsed time last)
 
 -- What step 5 finds.
-unfoldable pub validityOf : View → Entry → Validity
+unfoldable pub validityOf : Situation → Entry → Validity
 validityOf v e =
     record {
       «not_yet_active» = ltb (e .time) (v .credential .activation);
@@ -146,18 +151,18 @@ validity k next =
 -- ── step 9: "AUTHORIZE only, over enabled rules of both rights."
 
 -- A rule of a rights number; NONE has no rules.
-abbrev pub ofRights : ℕ → List ℕ → Bool
-ofRights rights s = not (eqb rights NONE) && isAt n.access-rule rights s
+abbrev pub ofRights : RightsId → List ℕ → Bool
+ofRights rights s = not (eqb (rights .0) NONE) && isAt n.access-rule (rights .0) s
 
 -- "enabled rules of both rights".
-unfoldable pub enabledRule : ℕ → ℕ → List ℕ → Bool
+unfoldable pub enabledRule : RightsId → RightsId → List ℕ → Bool
 enabledRule first second s = (ofRights first s || ofRights second s) && enabled s
 
 -- "A location fits if everywhere, this point, or its Zone_To."
-unfoldable pub locationFits : ℕ → ℕ → List ℕ → Bool
+unfoldable pub locationFits : PointId → ZoneId → List ℕ → Bool
 locationFits point to s =
-    everywhere s || eqb (locationKind s) n.access-point && eqb (location s) point
-    || eqb (locationKind s) n.access-zone && eqb (location s) to && not (eqb to NONE)
+    everywhere s || eqb (locationKind s) n.access-point && eqb (location s) (point .0)
+    || eqb (locationKind s) n.access-zone && eqb (location s) (to .0) && not (eqb (to .0) NONE)
 
 -- "Time fits if always, or the weekday is set and from ≤ minute of day < to."
 unfoldable pub weekday : ℕ → ℕ
@@ -174,7 +179,7 @@ timeFits time s =
     || bit (weekdays s) (weekday time) && leb (fromMinute s) (minuteOfDay time) && ltb (minuteOfDay time) (toMinute s)
 
 -- A fitting negative rule; a fitting positive rule; a positive rule that fits in location.
-unfoldable pub verdict : ℕ → ℕ → ℕ → ℕ → ℕ → List (List ℕ) → Verdict
+unfoldable pub verdict : RightsId → RightsId → PointId → ZoneId → ℕ → List (List ℕ) → Verdict
 verdict first second point to time ss =
     record {
       «negative_fits» = any (λ s. enabledRule first second s && (negative s && locationFits point to s && timeFits time s)) ss;
@@ -185,31 +190,31 @@ verdict first second point to time ss =
 -- ── step 10: passback and limits
 
 -- "Zone_To is a zone".
-abbrev pub intoZone : View → Bool
-intoZone v = not (eqb (v .point .«zone_to») NONE)
+abbrev pub intoZone : Situation → Bool
+intoZone v = not (eqb (v .point .«zone_to» .0) NONE)
 
 -- "Unless exempt: Zone_To is a zone and the credential's zone, and its timeout is unset or elapsed since entered < timeout × 60."
-unfoldable pub passbackViolated : View → Entry → Bool
+unfoldable pub passbackViolated : Situation → Entry → Bool
 passbackViolated v e =
-    not (v .credential .«passback_exempt») && intoZone v && eqb (v .«credential_state» .zone) (v .point .«zone_to»)
+    not (v .credential .«passback_exempt») && intoZone v && eqb (v .«credential_state» .zone .0) (v .point .«zone_to» .0)
     && (eqb (v .«zone_to» .«passback_timeout») 0
     || ltb (elapsed (e .time) (v .«credential_state» .entered)) (v .«zone_to» .«passback_timeout» * n.seconds-of-minute))
 
 -- "Unless exempt: lower enforced, Zone_From counting, lower set, count ≤ lower."
-unfoldable pub atLowerLimit : View → Bool
+unfoldable pub atLowerLimit : Situation → Bool
 atLowerLimit v =
     not (v .credential .«occupancy_exempt») && v .point .«lower_enforced» && v .«zone_from» .counting
     && not (eqb (v .«zone_from» .«lower_limit») 0) && leb (v .«count_from») (v .«zone_from» .«lower_limit»)
 
 -- "then upper likewise for Zone_To, count ≥ upper"
-unfoldable pub atUpperLimit : View → Bool
+unfoldable pub atUpperLimit : Situation → Bool
 atUpperLimit v =
     not (v .credential .«occupancy_exempt») && v .point .«upper_enforced» && v .«zone_to» .counting
     && not (eqb (v .«zone_to» .«upper_limit») 0) && leb (v .«zone_to» .«upper_limit») (v .«count_to»)
 
 -- What steps 7 to 10 find, and the order: "7. DENY_ALL: 128. 8. Authority < threat: 137. 9. .. Fitting negative: 135. Else no fitting
 -- positive: 136 if a positive fits in location, else 133 with a Zone_To, 134 without. 10. .. hard 138 .. 141; then .. 142."
-unfoldable pub authorizationOf : View → Verdict → Entry → Authorization
+unfoldable pub authorizationOf : Situation → Verdict → Entry → Authorization
 authorizationOf v rules e =
     record {
       «deny_all» = eqb (v .point .mode) n.mode-deny-all;
@@ -237,17 +242,20 @@ authorization k next =
     if k .«at_upper_limit» then n.denied-upper-occupancy-limit else
     next
 
--- ── steps 11 and 12: "Count adjust, Zone_To counting, count 4,294,967,295: 164." "Event 1."
+-- ── steps 11 and 12: "Count adjust, Zone_To counting, count 4,294,967,295: 164." "12. Event 1."
 
--- Steps 11 and 12.
-unfoldable pub passage : View → ℕ
-passage v =
+-- Step 11.
+unfoldable pub passage : Situation → ℕ → ℕ
+passage v next =
     if v .point .«count_adjust» && v .«zone_to» .counting && eqb (v .«count_to») n.largest-count then n.denied-other
-    else n.granted
+    else next
 
--- The event: "The first step that gives an event ends the checks." Step 6: "Master exemption skips to 11."
-unfoldable pub eventOf : View → Verdict → Entry → ℕ
-eventOf v rules e =
-    authentication (authenticationOf v e)
-    (validity (validityOf v e)
-    (if v .credential .master then passage v else authorization (authorizationOf v rules e) (passage v)))
+-- Steps 5 to 11, which ask nothing of the factor that was read. Step 6: "Master exemption skips to 11."
+unfoldable pub entitlement : Situation → Verdict → Entry → ℕ → ℕ
+entitlement v rules e next =
+    validity (validityOf v e)
+    (if v .credential .master then passage v next else authorization (authorizationOf v rules e) (passage v next))
+
+-- The event: "The first step that gives an event ends the checks." "12. Event 1."
+unfoldable pub eventOf : Situation → Verdict → Entry → ℕ
+eventOf v rules e = authentication (authenticationOf v e) (entitlement v rules e n.granted)

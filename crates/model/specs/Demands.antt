@@ -9,7 +9,7 @@ use lib.IntN.{pos}
 use lib.ListN.{length, getD}
 use Rattle.model.specs.Words.{all}
 use Rattle.model.specs.Numbers as n
-use Rattle.model.specs.Site.{records}
+use Rattle.model.specs.Site.{credentialId, records}
 use Rattle.model.specs.Accept.{exists}
 use Rattle.model.specs.State.{panel, wellFormed}
 use Rattle.model.specs.Entry.{entryOf, entries, operationOf, answerBytes}
@@ -71,4 +71,4 @@ GrantEarned =
     eventIn (getD (answersIn (runOn (h .site) (ended h) r .answers)) i []) ≡ n.granted →
     (operationOf (entryOf (getD (entries (r .journal)) i []) .operation) ≡ Factor)
     × Earned (panel (h .site) (runOn (h .site) (ended h) (firstOf i r) .state)) (entryOf (getD (entries (r .journal)) i []))
-    (credentialIn (getD (answersIn (runOn (h .site) (ended h) r .answers)) i []))
+    (credentialId (credentialIn (getD (answersIn (runOn (h .site) (ended h) r .answers)) i [])))

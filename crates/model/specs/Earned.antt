@@ -7,16 +7,17 @@ use lib.Dec.{eqb}
 use Rattle.octets.specs.Octets.{same}
 use Rattle.model.specs.Words.{if_then_else_, any}
 use Rattle.model.specs.Numbers as n
-use Rattle.model.specs.Site.{instance, factorDisable}
+use Rattle.model.specs.Site.{credentialId, instance, factorDisable}
 use Rattle.model.specs.State.{Panel, sites, find}
 use Rattle.model.specs.Checks.{stillLocked, waiting, overdue, identifying, confirming, inactive, passbackViolated, atLowerLimit, atUpperLimit}
-use Rattle.model.specs.Step.{factorRead, viewOf, rulesAt}
-use Rattle.model.specs.declared.View.{View}
+use Rattle.model.specs.Step.{factorRead, situationOf, rulesAt}
+use Rattle.model.specs.declared.CredentialId.{CredentialId}
+use Rattle.model.specs.declared.Situation.{Situation}
 use Rattle.model.specs.declared.Verdict.{Verdict}
 use Rattle.model.specs.declared.Entry.{Entry}
 
 -- Asked of every credential but a master-exempt one.
-pub record Authorized (v : View) (rules : Verdict) (e : Entry) : Type 0 where
+pub record Authorized (v : Situation) (rules : Verdict) (e : Entry) : Type 0 where
   -- The point does not deny all, and the credential's authority reaches the threat level.
   pub not-deny-all : eqb (v .point .mode) n.mode-deny-all ≡ false
   pub authority : v .point .«threat_level» ≤ v .credential .«threat_authority»
@@ -28,15 +29,15 @@ pub record Authorized (v : View) (rules : Verdict) (e : Entry) : Type 0 where
   pub above-lower-limit : atLowerLimit v ≡ false
   pub below-upper-limit : atUpperLimit v ≡ false
 
--- The view v that the entry e had, the rules asked, the factor record f that was found, and the credential c that the answer names.
-pub record EarnedAt (v : View) (rules : Verdict) (ss : List (List ℕ)) (f : List ℕ) (e : Entry) (c : ℕ) : Type 0 where
+-- The situation v that the entry e found, the rules asked, the factor record f that was found, and the credential c that the answer names.
+pub record EarnedAt (v : Situation) (rules : Verdict) (ss : List (List ℕ)) (f : List ℕ) (e : Entry) (c : CredentialId) : Type 0 where
   -- The point is in service and not locked, or its lock has just been relinquished.
   pub in-service : v .point .«out_of_service» ≡ false
   pub not-locked : stillLocked v e ≡ false
   -- A factor of the named credential matched, it is in the site, and it is not disabled.
   pub in-site : any (same f) ss ≡ true
   pub matched : (if waiting v then confirming c (e .argument) (e .value) f else identifying (e .argument) (e .value) f) ≡ true
-  pub of-credential : instance f ≡ c
+  pub of-credential : credentialId (instance f) ≡ c
   pub factor-enabled : factorDisable f ≡ 0
   -- Where two factors are wanted it is the confirming one of the credential waited for, in time.
   pub confirmed : v .point .«factors_wanted» ≡ n.two-factors → v .«point_state» .«waiting_credential» ≡ c
@@ -52,7 +53,7 @@ pub record EarnedAt (v : View) (rules : Verdict) (ss : List (List ℕ)) (f : Lis
   pub authorized : v .credential .master ≡ false → Authorized v rules e
 
 -- The same of an entry at a panel.
-unfoldable pub Earned : Panel → Entry → ℕ → Type 0
+unfoldable pub Earned : Panel → Entry → CredentialId → Type 0
 Earned ps e c =
-    EarnedAt (viewOf ps e (find n.access-point (e .instance) ps)) (rulesAt ps e (find n.access-point (e .instance) ps)) (sites ps)
+    EarnedAt (situationOf ps e (find n.access-point (e .instance) ps)) (rulesAt ps e (find n.access-point (e .instance) ps)) (sites ps)
     (factorRead ps e (find n.access-point (e .instance) ps)) e c

@@ -32,7 +32,7 @@ entries journal = groups entry-size (length journal / entry-size) journal
 -- "Answer: 0 event (2); 2 marks; 3 refusal; 4 tag; 8 credential or NONE; 12 count."
 unfoldable pub answerBytes : Answer → List ℕ
 answerBytes a =
-    digits 2 (a .event) ++ digits 1 (a .marks) ++ digits 1 (a .refusal) ++ digits 4 (a .tag) ++ digits 4 (a .credential)
+    digits 2 (a .event) ++ digits 1 (a .marks) ++ digits 1 (a .refusal) ++ digits 4 (a .tag) ++ digits 4 (a .credential .0)
     ++ digits 4 (a .count)
 
 -- 1 a factor at a point, 2 set a zone's count, 3 adjust it, 4 set a credential's disable, 5 a point in service or not.

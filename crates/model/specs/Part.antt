@@ -7,29 +7,33 @@ use lib.Dec.{eqb}
 use Rattle.model.specs.Words.{if_then_else_, keep, all, missing}
 use Rattle.model.specs.Numbers as n
 use Rattle.model.specs.Numbers.{NONE}
-use Rattle.model.specs.Site.{records, kind, instance, pointOf, credentialOf, findIn}
+use Rattle.model.specs.Site.{zoneId, pointId, credentialId, rightsId, records, kind, instance, pointOf, credentialOf, findIn}
 use Rattle.model.specs.State.{Pair, panel}
 use Rattle.model.specs.Entry.{entryOf, operationOf, objectKind}
 use Rattle.model.specs.Checks.{identifying}
 use Rattle.model.specs.Lists.{Worked, refusalIn, History, ended, worked}
+use Rattle.model.specs.declared.ZoneId.{ZoneId}
+use Rattle.model.specs.declared.PointId.{PointId}
+use Rattle.model.specs.declared.CredentialId.{CredentialId}
+use Rattle.model.specs.declared.RightsId.{RightsId}
 use Rattle.model.specs.declared.Entry.{Entry}
 use Rattle.model.specs.declared.Operation.{Operation}
 use Rattle.model.specs.declared.Operation.the-variants.{Factor, SetCount, AdjustCount, SetDisable, SetService, Unknown}
 
 -- "A part is a set of zones, points, credentials and rights numbers".
 pub record Part : Type 0 where
-  pub zones : ℕ → Bool
-  pub points : ℕ → Bool
-  pub credentials : ℕ → Bool
-  pub rights : ℕ → Bool
+  pub zones : ZoneId → Bool
+  pub points : PointId → Bool
+  pub credentials : CredentialId → Bool
+  pub rights : RightsId → Bool
 
 -- "with the rules and factors under them": a rule is under its rights number, a factor under its credential.
 unfoldable pub member : Part → ℕ → ℕ → Bool
 member P k i =
-    if eqb k n.access-zone then P .zones i else
-    if eqb k n.access-point then P .points i else
-    if eqb k n.access-rule then P .rights i else
-    if eqb k n.access-credential || eqb k n.authentication-factor then P .credentials i else
+    if eqb k n.access-zone then P .zones (zoneId i) else
+    if eqb k n.access-point then P .points (pointId i) else
+    if eqb k n.access-rule then P .rights (rightsId i) else
+    if eqb k n.access-credential || eqb k n.authentication-factor then P .credentials (credentialId i) else
     false
 
 -- A record of the part.
@@ -49,13 +53,13 @@ onSide P k i side = eqb i NONE || Bool·beq (member P k i) side
 -- "no point's zone is across the border".
 unfoldable pub pointInside : Part → List ℕ → Bool
 pointInside P s =
-    onSide P n.access-zone (pointOf s .«zone_to») (holds P s) && onSide P n.access-zone (pointOf s .«zone_from») (holds P s)
+    onSide P n.access-zone (pointOf s .«zone_to» .0) (holds P s) && onSide P n.access-zone (pointOf s .«zone_from» .0) (holds P s)
 
 -- "rights that a credential of the part names are in it".
 unfoldable pub credentialInside : Part → List ℕ → Bool
 credentialInside P s =
     not (holds P s)
-    || onSide P n.access-rule (credentialOf s .«first_rights») true && onSide P n.access-rule (credentialOf s .«second_rights») true
+    || onSide P n.access-rule (credentialOf s .«first_rights» .0) true && onSide P n.access-rule (credentialOf s .«second_rights» .0) true
 
 -- Both, of any site record.
 unfoldable pub inside : Part → List ℕ → Bool

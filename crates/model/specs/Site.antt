@@ -6,22 +6,45 @@ use lib.Dec.{eqb}
 use lib.ListN.{length, take, drop}
 use Rattle.octets.specs.Octets.{field, groups}
 use Rattle.model.specs.Words.{if_then_else_, bit}
-use Rattle.model.specs.Numbers.{NONE, record-size}
+use Rattle.model.specs.Numbers.{NONE, record-size, access-zone, access-point, access-rule, access-credential}
+use Rattle.model.specs.declared.ZoneId.{ZoneId}
+use Rattle.model.specs.declared.PointId.{PointId}
+use Rattle.model.specs.declared.CredentialId.{CredentialId}
+use Rattle.model.specs.declared.RightsId.{RightsId}
 use Rattle.model.specs.declared.Zone.{Zone}
 use Rattle.model.specs.declared.Point.{Point}
 use Rattle.model.specs.declared.Credential.{Credential}
+
+-- "Instances are numbered per object type, so zone 7 is never credential 7": a number of each type.
+abbrev pub zoneId : ℕ → ZoneId
+zoneId i = record { 0 = i }
+
+abbrev pub pointId : ℕ → PointId
+pointId i = record { 0 = i }
+
+abbrev pub credentialId : ℕ → CredentialId
+credentialId i = record { 0 = i }
+
+abbrev pub rightsId : ℕ → RightsId
+rightsId i = record { 0 = i }
 
 -- The records of a site file: its whole groups of 32 bytes, in file order.
 unfoldable pub records : List ℕ → List (List ℕ)
 records site = groups record-size (length site / record-size) site
 
--- "0 kind, 1 flags (bit 0 lowest), 4 instance (4 bytes)."
+-- ── "0 kind, 1 flags (bit 0 lowest), 4 instance (4 bytes)."
+
+-- "0 kind".
 abbrev pub kind : List ℕ → ℕ
 kind s = field 0 1 s
 
--- "1 flags (bit 0 lowest)".
+-- "1 flags".
+abbrev pub flags : List ℕ → ℕ
+flags s = field 1 1 s
+
+-- "(bit 0 lowest)".
 abbrev pub flag : List ℕ → ℕ → Bool
-flag s i = bit (field 1 1 s) i
+flag s i = bit (flags s) i
 
 -- "4 instance (4 bytes)".
 abbrev pub instance : List ℕ → ℕ
@@ -32,7 +55,9 @@ unfoldable pub reference : ℕ → List ℕ → ℕ
 reference at [] = NONE
 reference at (x ∷ s) = field at 4 (x ∷ s)
 
--- "Kind 1, zone. Flag 0 counting. 2: passback .. 8 upper limit, 12 lower limit, 16 passback timeout in minutes, 4 bytes each."
+-- ── "Kind 1, zone."
+
+-- "Flag 0 counting. 2: passback .. 8 upper limit, 12 lower limit, 16 passback timeout in minutes, 4 bytes each."
 unfoldable pub zoneOf : List ℕ → Zone
 zoneOf s =
     record {
@@ -43,9 +68,10 @@ zoneOf s =
       «passback_timeout» = field 16 4 s;
     }
 
--- "Kind 2, point. Flags: 0 out of service, 1 upper enforced, 2 lower enforced, 3 count adjust, 4 muster. 2: mode .. 3: factors
--- wanted .. 8 Zone_To, 12 Zone_From .. 16 threat level .. 17 most failures .. 18 factor timeout (2, seconds), 20 lockout
--- relinquish (4), 24 failure window (4)."
+-- ── "Kind 2, point."
+
+-- "Flags: 0 out of service, 1 upper enforced, 2 lower enforced, 3 count adjust, 4 muster. 2: mode .. 3: factors wanted .. 8 Zone_To,
+-- 12 Zone_From .. 16 threat level .. 17 most failures .. 18 factor timeout (2, seconds), 20 lockout relinquish (4), 24 failure window (4)."
 unfoldable pub pointOf : List ℕ → Point
 pointOf s =
     record {
@@ -56,8 +82,8 @@ pointOf s =
       muster = flag s 4;
       mode = field 2 1 s;
       «factors_wanted» = field 3 1 s;
-      «zone_to» = reference 8 s;
-      «zone_from» = reference 12 s;
+      «zone_to» = zoneId (reference 8 s);
+      «zone_from» = zoneId (reference 12 s);
       «threat_level» = field 16 1 s;
       «most_failures» = field 17 1 s;
       «factor_timeout» = field 18 2 s;
@@ -65,8 +91,9 @@ pointOf s =
       «failure_window» = field 24 4 s;
     }
 
--- "Kind 3, rule; instance is its rights number. Flags: 0 enabled, 1 negative, 2 always, 3 everywhere. 2: location kind 1 zone or
--- 2 point. 3: days .. 8 location (4). 12 from, 14 to, minutes (2 each)."
+-- ── "Kind 3, rule; instance is its rights number."
+
+-- "Flags: 0 enabled".
 abbrev pub enabled : List ℕ → Bool
 enabled s = flag s 0
 
@@ -102,8 +129,22 @@ fromMinute s = field 12 2 s
 abbrev pub toMinute : List ℕ → ℕ
 toMinute s = field 14 2 s
 
--- "Kind 4, credential. Flags: 0 master, 1 passback and 2 occupancy exemption, 3 trace, 4 extended time. 2: disable .. 3: threat
--- authority .. 8 activation, 12 expiry (4 each). 16 uses, 18 days, 20 absentee days .. 24 and 28 rights numbers or NONE."
+-- ── "Kind 4, credential."
+
+-- "2: disable".
+abbrev pub disableGiven : List ℕ → ℕ
+disableGiven s = field 2 1 s
+
+-- "16 uses".
+abbrev pub usesGiven : List ℕ → ℕ
+usesGiven s = field 16 2 s
+
+-- "18 days".
+abbrev pub daysGiven : List ℕ → ℕ
+daysGiven s = field 18 2 s
+
+-- "Flags: 0 master, 1 passback and 2 occupancy exemption, 3 trace, 4 extended time .. 3: threat authority .. 8 activation, 12 expiry
+-- (4 each) .. 20 absentee days .. 24 and 28 rights numbers or NONE."
 unfoldable pub credentialOf : List ℕ → Credential
 credentialOf s =
     record {
@@ -116,12 +157,13 @@ credentialOf s =
       activation = field 8 4 s;
       expiry = field 12 4 s;
       «absentee_days» = field 20 2 s;
-      «first_rights» = reference 24 s;
-      «second_rights» = reference 28 s;
+      «first_rights» = rightsId (reference 24 s);
+      «second_rights» = rightsId (reference 28 s);
     }
 
--- "Kind 5, factor; instance is its credential. 2: role .. 3: disable .. 8 format .. 16 value; all eight value bytes are compared,
--- leading zeros included."
+-- ── "Kind 5, factor; instance is its credential."
+
+-- "2: role".
 abbrev pub role : List ℕ → ℕ
 role s = field 2 1 s
 

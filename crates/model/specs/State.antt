@@ -7,8 +7,10 @@ use lib.ListN.{length, take, drop}
 use Rattle.octets.specs.Octets.{field, digits}
 use Rattle.model.specs.Words.{if_then_else_, all, zeros, bitOf}
 use Rattle.model.specs.Numbers.{NONE, NEVER, record-size, access-zone, access-point, access-credential, largest-disable}
-use Rattle.model.specs.Site.{kind, reference, pointOf, isAt, records}
+use Rattle.model.specs.Site.{zoneId, pointId, credentialId, kind, reference, pointOf, disableGiven, usesGiven, daysGiven, isAt, records}
 use Rattle.model.specs.Accept.{clear, noneOrExists}
+use Rattle.model.specs.declared.ZoneId.{ZoneId}
+use Rattle.model.specs.declared.CredentialId.{CredentialId}
 use Rattle.model.specs.declared.PointState.{PointState}
 use Rattle.model.specs.declared.CredentialState.{CredentialState}
 
@@ -29,7 +31,7 @@ pointStateOf t =
       locked = eqb (field 5 1 t) 1;
       «lock_time» = field 8 4 t;
       «first_failure» = field 12 4 t;
-      «waiting_credential» = reference 16 t;
+      «waiting_credential» = credentialId (reference 16 t);
       «waiting_since» = field 20 4 t;
     }
 
@@ -37,7 +39,7 @@ pointStateOf t =
 unfoldable pub pointBytes : PointState → List ℕ
 pointBytes p =
     digits 4 (p .tag) ++ digits 1 (p .failures) ++ digits 1 (bitOf (p .locked)) ++ zeros 2 ++ digits 4 (p .«lock_time»)
-    ++ digits 4 (p .«first_failure») ++ digits 4 (p .«waiting_credential») ++ digits 4 (p .«waiting_since») ++ zeros 8
+    ++ digits 4 (p .«first_failure») ++ digits 4 (p .«waiting_credential» .0) ++ digits 4 (p .«waiting_since») ++ zeros 8
 
 -- "Credential: 0 uses, 2 days (2 each), 4 last use, 8 zone, 12 entered (4 each), 16 last event (2), 18 disable (1), 20 last
 -- point (4)."
@@ -47,18 +49,18 @@ credentialStateOf t =
       uses = field 0 2 t;
       days = field 2 2 t;
       «last_use» = field 4 4 t;
-      zone = reference 8 t;
+      zone = zoneId (reference 8 t);
       entered = field 12 4 t;
       «last_event» = field 16 2 t;
       disable = field 18 1 t;
-      «last_point» = reference 20 t;
+      «last_point» = pointId (reference 20 t);
     }
 
 -- The bytes of that record.
 unfoldable pub credentialBytes : CredentialState → List ℕ
 credentialBytes c =
-    digits 2 (c .uses) ++ digits 2 (c .days) ++ digits 4 (c .«last_use») ++ digits 4 (c .zone) ++ digits 4 (c .entered)
-    ++ digits 2 (c .«last_event») ++ digits 1 (c .disable) ++ zeros 1 ++ digits 4 (c .«last_point») ++ zeros 8
+    digits 2 (c .uses) ++ digits 2 (c .days) ++ digits 4 (c .«last_use») ++ digits 4 (c .zone .0) ++ digits 4 (c .entered)
+    ++ digits 2 (c .«last_event») ++ digits 1 (c .disable) ++ zeros 1 ++ digits 4 (c .«last_point» .0) ++ zeros 8
 
 -- ── the panel: the site records, each with its state record, in file order
 
@@ -101,6 +103,13 @@ find k i ps = findBy (isAt k i) ps
 unfoldable pub seek : ℕ → ℕ → Panel → Pair
 seek k i ps = if eqb i NONE then ([], []) else find k i ps
 
+-- What the number of a zone, and of a credential, names.
+abbrev pub seekZone : ZoneId → Panel → Pair
+seekZone z ps = seek access-zone (z .0) ps
+
+abbrev pub seekCredential : CredentialId → Panel → Pair
+seekCredential c ps = seek access-credential (c .0) ps
+
 -- The panel with the state record of the first record of a kind and instance made `b`.
 unfoldable pub store : ℕ → ℕ → List ℕ → Panel → Panel
 store k i b [] = []
@@ -121,7 +130,7 @@ freshPoint =
       locked = false;
       «lock_time» = 0;
       «first_failure» = 0;
-      «waiting_credential» = NONE;
+      «waiting_credential» = credentialId NONE;
       «waiting_since» = 0;
     }
 
@@ -129,14 +138,14 @@ freshPoint =
 unfoldable pub freshCredential : List ℕ → CredentialState
 freshCredential s =
     record {
-      uses = field 16 2 s;
-      days = field 18 2 s;
+      uses = usesGiven s;
+      days = daysGiven s;
       «last_use» = NEVER;
-      zone = NONE;
+      zone = zoneId NONE;
       entered = NEVER;
       «last_event» = 0;
-      disable = field 2 1 s;
-      «last_point» = NONE;
+      disable = disableGiven s;
+      «last_point» = pointId NONE;
     }
 
 -- The fresh record of a site record; "Rule, factor: zero", and so is a zone's.
@@ -164,16 +173,16 @@ failuresWell failures most = if eqb most 0 then eqb failures 0 else ltb failures
 -- A point: "unnamed bytes zero, fields in range, references NONE or existing, locked points wait for nobody, failures below the most".
 unfoldable pub pointWell : List (List ℕ) → List ℕ → List ℕ → Bool
 pointWell ss s t =
-    leb (field 5 1 t) 1 && clear 6 2 t && clear 24 8 t && noneOrExists ss access-credential (pointStateOf t .«waiting_credential»)
-    && (not (pointStateOf t .locked) || eqb (pointStateOf t .«waiting_credential») NONE)
+    leb (field 5 1 t) 1 && clear 6 2 t && clear 24 8 t && noneOrExists ss access-credential (pointStateOf t .«waiting_credential» .0)
+    && (not (pointStateOf t .locked) || eqb (pointStateOf t .«waiting_credential» .0) NONE)
     && failuresWell (pointStateOf t .failures) (pointOf s .«most_failures»)
 
 -- A credential: "unnamed bytes zero, fields in range, references NONE or existing".
 unfoldable pub credentialWell : List (List ℕ) → List ℕ → Bool
 credentialWell ss t =
     leb (credentialStateOf t .disable) largest-disable && clear 19 1 t && clear 24 8 t
-    && noneOrExists ss access-zone (credentialStateOf t .zone)
-    && noneOrExists ss access-point (credentialStateOf t .«last_point»)
+    && noneOrExists ss access-zone (credentialStateOf t .zone .0)
+    && noneOrExists ss access-point (credentialStateOf t .«last_point» .0)
 
 -- A state record, beside its site record, in a site of the records ss.
 unfoldable pub recordWell : List (List ℕ) → Pair → Bool

@@ -6,12 +6,13 @@ use lib.Dec.{ltb, leb, eqb}
 use Rattle.model.specs.Words.{if_then_else_, missing}
 use Rattle.model.specs.Numbers as n
 use Rattle.model.specs.Numbers.{NONE}
-use Rattle.model.specs.Site.{zoneOf, pointOf, credentialOf, factorDisable}
-use Rattle.model.specs.State.{Pair, Panel, sites, find, seek, write, count, zoneBytes, pointStateOf, pointBytes, credentialStateOf, credentialBytes, freshPoint, freshCredential}
+use Rattle.model.specs.Site.{zoneId, pointId, credentialId, zoneOf, pointOf, credentialOf, factorDisable}
+use Rattle.model.specs.State.{Pair, Panel, sites, find, seekZone, seekCredential, write, count, zoneBytes, pointStateOf, pointBytes, credentialStateOf, credentialBytes, freshPoint, freshCredential}
 use Rattle.model.specs.Entry.{operationOf, objectKind, inForm}
 use Rattle.model.specs.Checks.{factorFor, credentialRead, verdict, eventOf}
 use Rattle.model.specs.Effects.{nextTag, outcomeOf}
-use Rattle.model.specs.declared.View.{View}
+use Rattle.model.specs.declared.CredentialId.{CredentialId}
+use Rattle.model.specs.declared.Situation.{Situation}
 use Rattle.model.specs.declared.Verdict.{Verdict}
 use Rattle.model.specs.declared.Entry.{Entry}
 use Rattle.model.specs.declared.Answer.{Answer}
@@ -28,20 +29,20 @@ use Rattle.model.specs.declared.Operation.the-variants.{Factor, SetCount
 
 -- No point is written.
 unfoldable pub noPoint : PointWrite
-noPoint = record { written = false; instance = NONE; state = freshPoint }
+noPoint = record { written = false; instance = pointId NONE; state = freshPoint }
 
 -- No credential is written.
 unfoldable pub noCredential : CredentialWrite
-noCredential = record { written = false; instance = NONE; state = freshCredential [] }
+noCredential = record { written = false; instance = credentialId NONE; state = freshCredential [] }
 
 -- No zone is written.
 unfoldable pub noCount : CountWrite
-noCount = record { written = false; instance = NONE; count = 0 }
+noCount = record { written = false; instance = zoneId NONE; count = 0 }
 
 -- "event 0, credential NONE, no marks".
 abbrev pub noAnswer : ℕ → ℕ → ℕ → Answer
 noAnswer refusal tag counted =
-    record { event = n.no-event; marks = 0; refusal = refusal; tag = tag; credential = NONE; count = counted }
+    record { event = n.no-event; marks = 0; refusal = refusal; tag = tag; credential = credentialId NONE; count = counted }
 
 -- "nothing changes".
 unfoldable pub unchanged : Answer → Outcome
@@ -58,24 +59,24 @@ unfoldable pub factorRead : Panel → Entry → Pair → List ℕ
 factorRead ps e p = factorFor (pointStateOf (p .1) .«waiting_credential») e (sites ps)
 
 -- "the credential waited for, else the one that step 3 matched, else NONE".
-unfoldable pub numberRead : Panel → Entry → Pair → ℕ
+unfoldable pub numberRead : Panel → Entry → Pair → CredentialId
 numberRead ps e p = credentialRead (pointStateOf (p .1) .«waiting_credential») (factorRead ps e p)
 
 -- The records of Zone_To.
 unfoldable pub zoneTo : Panel → Pair → Pair
-zoneTo ps p = seek n.access-zone (pointOf (p .0) .«zone_to») ps
+zoneTo ps p = seekZone (pointOf (p .0) .«zone_to») ps
 
 -- The records of Zone_From.
 unfoldable pub zoneFrom : Panel → Pair → Pair
-zoneFrom ps p = seek n.access-zone (pointOf (p .0) .«zone_from») ps
+zoneFrom ps p = seekZone (pointOf (p .0) .«zone_from») ps
 
 -- The records of the credential read.
 unfoldable pub credentialAt : Panel → Entry → Pair → Pair
-credentialAt ps e p = seek n.access-credential (numberRead ps e p) ps
+credentialAt ps e p = seekCredential (numberRead ps e p) ps
 
 -- All that steps 1 to 11 look at, but for the rules.
-unfoldable pub viewOf : Panel → Entry → Pair → View
-viewOf ps e p =
+unfoldable pub situationOf : Panel → Entry → Pair → Situation
+situationOf ps e p =
     record {
       point = pointOf (p .0);
       «point_state» = pointStateOf (p .1);
@@ -93,7 +94,7 @@ viewOf ps e p =
 -- What the rules say (step 9).
 unfoldable pub rulesAt : Panel → Entry → Pair → Verdict
 rulesAt ps e p =
-    verdict (viewOf ps e p .credential .«first_rights») (viewOf ps e p .credential .«second_rights») (e .instance)
+    verdict (situationOf ps e p .credential .«first_rights») (situationOf ps e p .credential .«second_rights») (pointId (e .instance))
     (pointOf (p .0) .«zone_to») (e .time) (sites ps)
 
 -- "Out of service: event 0, credential NONE, no marks, nothing changes, tag as held."
@@ -101,7 +102,7 @@ unfoldable pub factorOutcome : Panel → Entry → Pair → Outcome
 factorOutcome ps e p =
     if pointOf (p .0) .«out_of_service»
     then unchanged (noAnswer n.not-refused (pointStateOf (p .1) .tag) (count (zoneTo ps p .1)))
-    else outcomeOf (viewOf ps e p) e (eventOf (viewOf ps e p) (rulesAt ps e p) e)
+    else outcomeOf (situationOf ps e p) e (eventOf (situationOf ps e p) (rulesAt ps e p) e)
 
 -- ── operations 2 and 3: "Set a zone's count to the amount." "Adjust it by the amount, signed; below zero becomes 0."
 
@@ -112,7 +113,7 @@ countOutcome e counted =
       answer = noAnswer n.not-refused 0 counted;
       point = noPoint;
       credential = noCredential;
-      «zone_to» = record { written = true; instance = e .instance; count = counted };
+      «zone_to» = record { written = true; instance = zoneId (e .instance); count = counted };
       «zone_from» = noCount;
     }
 
@@ -150,9 +151,17 @@ disableAfter c disable =
 unfoldable pub disableOutcome : Entry → CredentialState → Outcome
 disableOutcome e c =
     record {
-      answer = record { event = n.no-event; marks = 0; refusal = n.not-refused; tag = 0; credential = e .instance; count = 0 };
+      answer =
+          record {
+            event = n.no-event;
+            marks = 0;
+            refusal = n.not-refused;
+            tag = 0;
+            credential = credentialId (e .instance);
+            count = 0;
+          };
       point = noPoint;
-      credential = record { written = true; instance = e .instance; state = disableAfter c (e .argument) };
+      credential = record { written = true; instance = credentialId (e .instance); state = disableAfter c (e .argument) };
       «zone_to» = noCount;
       «zone_from» = noCount;
     }
@@ -172,7 +181,7 @@ serviceAfter e p =
       locked = locks e;
       «lock_time» = if locks e then e .time else p .«lock_time»;
       «first_failure» = p .«first_failure»;
-      «waiting_credential» = if locks e then NONE else p .«waiting_credential»;
+      «waiting_credential» = if locks e then credentialId NONE else p .«waiting_credential»;
       «waiting_since» = p .«waiting_since»;
     }
 
@@ -186,10 +195,10 @@ serviceOutcome e p counted =
             marks = 0;
             refusal = n.not-refused;
             tag = nextTag (p .tag);
-            credential = NONE;
+            credential = credentialId NONE;
             count = counted;
           };
-      point = record { written = true; instance = e .instance; state = serviceAfter e p };
+      point = record { written = true; instance = pointId (e .instance); state = serviceAfter e p };
       credential = noCredential;
       «zone_to» = noCount;
       «zone_from» = noCount;
@@ -221,10 +230,10 @@ entryOutcome ps e =
 -- "Only the state records of these objects are written."
 unfoldable pub apply : Outcome → Panel → Panel
 apply o ps =
-    write (o .point .written) n.access-point (o .point .instance) (pointBytes (o .point .state))
-    (write (o .credential .written) n.access-credential (o .credential .instance) (credentialBytes (o .credential .state))
-    (write (o .«zone_to» .written) n.access-zone (o .«zone_to» .instance) (zoneBytes (o .«zone_to» .count))
-    (write (o .«zone_from» .written) n.access-zone (o .«zone_from» .instance) (zoneBytes (o .«zone_from» .count)) ps)))
+    write (o .point .written) n.access-point (o .point .instance .0) (pointBytes (o .point .state))
+    (write (o .credential .written) n.access-credential (o .credential .instance .0) (credentialBytes (o .credential .state))
+    (write (o .«zone_to» .written) n.access-zone (o .«zone_to» .instance .0) (zoneBytes (o .«zone_to» .count))
+    (write (o .«zone_from» .written) n.access-zone (o .«zone_from» .instance .0) (zoneBytes (o .«zone_from» .count)) ps)))
 
 -- ── a list of entries: the panel after it, and the answers
 

@@ -43,8 +43,8 @@ signed amount = if isNegative amount then negℤ (pos (n.modulus - amount)) else
 unfoldable pub passed : ℕ → List (List ℕ) → List ℕ → Tally → Tally
 passed z ss p t =
     if not (pointOf p .«count_adjust» && zoneOf (findIn (isAt n.access-zone z) ss) .counting) then t else
-    if eqb (pointOf p .«zone_to») z then move (pos 1) t else
-    if eqb (pointOf p .«zone_from») z then move (negℤ (pos 1)) t else
+    if eqb (pointOf p .«zone_to» .0) z then move (pos 1) t else
+    if eqb (pointOf p .«zone_from» .0) z then move (negℤ (pos 1)) t else
     t
 
 -- One entry, with the event and the refusal of its answer. "Any other entry changes neither."

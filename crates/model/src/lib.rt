@@ -2,6 +2,16 @@
 // A struct for each kind of record holds the fields that decisions read; rules and factors are read in place, out of their records.
 
 pub mod numbers; // numbers.rt: the numbers of document 01 by name
+pub mod layout; // layout.rt: where the fields of records, entries and answers stand
+
+// Instances are numbered per object type, so that zone 7 is never credential 7: a number of each type is a type of its own.
+pub struct ZoneId(pub u32);
+
+pub struct PointId(pub u32);
+
+pub struct CredentialId(pub u32);
+
+pub struct RightsId(pub u32);
 
 // The fields of a zone's site record.
 pub struct Zone {
@@ -21,8 +31,8 @@ pub struct Point {
     pub muster: bool,
     pub mode: u8,
     pub factors_wanted: u8,
-    pub zone_to: u32,
-    pub zone_from: u32,
+    pub zone_to: ZoneId,
+    pub zone_from: ZoneId,
     pub threat_level: u8,
     pub most_failures: u8,
     pub factor_timeout: u16,
@@ -41,8 +51,8 @@ pub struct Credential {
     pub activation: u32,
     pub expiry: u32,
     pub absentee_days: u16,
-    pub first_rights: u32,
-    pub second_rights: u32,
+    pub first_rights: RightsId,
+    pub second_rights: RightsId,
 }
 
 // The fields of a point's state record.
@@ -52,7 +62,7 @@ pub struct PointState {
     pub locked: bool,
     pub lock_time: u32,
     pub first_failure: u32,
-    pub waiting_credential: u32,
+    pub waiting_credential: CredentialId,
     pub waiting_since: u32,
 }
 
@@ -61,11 +71,11 @@ pub struct CredentialState {
     pub uses: u16,
     pub days: u16,
     pub last_use: u32,
-    pub zone: u32,
+    pub zone: ZoneId,
     pub entered: u32,
     pub last_event: u16,
     pub disable: u8,
-    pub last_point: u32,
+    pub last_point: PointId,
 }
 
 // A journal entry of 24 bytes; `spare` is bytes 2 and 3.
@@ -95,12 +105,12 @@ pub struct Answer {
     pub marks: u8,
     pub refusal: u8,
     pub tag: u32,
-    pub credential: u32,
+    pub credential: CredentialId,
     pub count: u32,
 }
 
 // All that the order of checks looks at, but for the rules: the point, its zones, the factor read and its credential.
-pub struct View {
+pub struct Situation {
     pub point: Point,
     pub point_state: PointState,
     pub zone_to: Zone,
@@ -109,7 +119,7 @@ pub struct View {
     pub count_from: u32,
     pub matched: bool,
     pub factor_disable: u8,
-    pub number: u32,
+    pub number: CredentialId,
     pub credential: Credential,
     pub credential_state: CredentialState,
 }
@@ -161,19 +171,19 @@ pub struct Authorization {
 // A state record that an entry writes where the flag is set: of a point, of a credential, of a zone.
 pub struct PointWrite {
     pub written: bool,
-    pub instance: u32,
+    pub instance: PointId,
     pub state: PointState,
 }
 
 pub struct CredentialWrite {
     pub written: bool,
-    pub instance: u32,
+    pub instance: CredentialId,
     pub state: CredentialState,
 }
 
 pub struct CountWrite {
     pub written: bool,
-    pub instance: u32,
+    pub instance: ZoneId,
     pub count: u32,
 }
 

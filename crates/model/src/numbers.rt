@@ -48,6 +48,8 @@ pub const ROLE_IDENTIFYING: u8 = 1;
 pub const ROLE_CONFIRMING: u8 = 2;
 
 // Fields of records and entries.
+pub const LARGEST_THREAT: u8 = 100;
+
 pub const PASSBACK_HARD: u8 = 1;
 
 pub const PASSBACK_SOFT: u8 = 2;
@@ -71,6 +73,8 @@ pub const FACTOR_LOST: u8 = 2;
 pub const FACTOR_STOLEN: u8 = 3;
 
 pub const FACTOR_DAMAGED: u8 = 4;
+
+pub const FACTOR_DESTROYED: u8 = 5;
 
 pub const FORMAT_ERROR: u8 = 1;
 
