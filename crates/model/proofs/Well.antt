@@ -13,7 +13,7 @@ use Rattle.model.specs.Numbers as n
 use Rattle.model.specs.Numbers.{NONE}
 use Rattle.model.specs.Site.{credentialId, kind, instance, reference, pointOf, isAt, findIn}
 use Rattle.model.specs.Accept.{clear, exists, noneOrExists, inRange, credentialInRange, namesExist}
-use Rattle.model.specs.State.{Pair, Panel, findBy, find, seek, zoneBytes, pointStateOf, pointBytes, credentialStateOf, credentialBytes, freshPoint, freshCredential, freshRecord, zoneWell, failuresWell, pointWell, credentialWell, recordWell}
+use Rattle.model.specs.State.{Pair, Panel, findBy, find, seek, zoneBytes, pointStateOf, pointBytes, credentialStateOf, credentialBytes, freshPoint, freshWith, freshCredential, freshRecord, zoneWell, failuresWell, pointWell, credentialWell, recordWell}
 use Rattle.model.specs.Checks.{identifying, confirming, factorFor, credentialRead}
 use Rattle.model.proofs.Laws.{if-holds, and-left, and-right}
 use Rattle.model.proofs.RoundTrip.{point-back, credential-back}
@@ -76,11 +76,11 @@ pub fresh-point : (ss : List (List ℕ)) (most : ℕ) → PointSound ss most fre
 unfolding freshPoint noneOrExists
 fresh-point ss most = record { waits = refl; free = refl; fails = no-failures most }
 
--- The fresh state of a credential is, if the disable of its site record is in range.
-pub fresh-credential : (ss : List (List ℕ)) (s : List ℕ) → leb (field 2 1 s) n.largest-disable ≡ true →
-    CredentialSound ss (freshCredential s)
-unfolding freshCredential noneOrExists
-fresh-credential ss s d = record { disabled = d; inside = refl; seen = refl }
+-- The fresh state of a credential is, if its disable is in range.
+pub fresh-credential : (ss : List (List ℕ)) (uses days disable : ℕ) → leb disable n.largest-disable ≡ true →
+    CredentialSound ss (freshWith uses days disable)
+unfolding freshWith noneOrExists
+fresh-credential ss uses days disable d = record { disabled = d; inside = refl; seen = refl }
 
 -- ── the bytes of such a state are a well-formed record
 
@@ -283,7 +283,7 @@ fresh-record ss s r = go (eqb (kind s) n.access-point) (eqb (kind s) n.access-cr
     go true d p c = point-well ss s freshPoint (eqb-true (kind s) n.access-point p) (fresh-point ss _)
     go false true p c =
         let k = eqb-true (kind s) n.access-credential c in
-        credential-well ss s (freshCredential s) k (fresh-credential ss s (disable-fits k))
+        credential-well ss s (freshCredential s) k (unfold freshCredential in fresh-credential ss _ _ _ (disable-fits k))
     go false false p c = zeros-well ss s p c
 
 -- The fresh panel of site records in range is well formed.

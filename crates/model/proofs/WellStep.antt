@@ -143,8 +143,8 @@ record Sound (ss : List (List ℕ)) (o : Outcome) : Type 0 where
 
 -- The credential's state that stands where none is written.
 unwritten : (ss : List (List ℕ)) → CredentialSound ss (noCredential .state)
-unfolding noCredential field
-unwritten ss = fresh-credential ss [] refl
+unfolding noCredential
+unwritten ss = fresh-credential ss 0 0 0 refl
 
 -- An outcome that writes nothing.
 sound-unchanged : (ss : List (List ℕ)) (a : Answer) → Sound ss (unchanged a)

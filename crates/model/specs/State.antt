@@ -22,13 +22,17 @@ count t = field 0 4 t
 unfoldable pub zoneBytes : ℕ → List ℕ
 zoneBytes n = digits 4 n ++ zeros 28
 
+-- "5 locked 0/1".
+abbrev pub lockedByte : List ℕ → ℕ
+lockedByte t = field 5 1 t
+
 -- "Point: 0 tag (4), 4 failures (1), 5 locked 0/1, 8 lock time, 12 first failure, 16 waiting credential, 20 waiting since (4 each)."
 unfoldable pub pointStateOf : List ℕ → PointState
 pointStateOf t =
     record {
       tag = field 0 4 t;
       failures = field 4 1 t;
-      locked = eqb (field 5 1 t) 1;
+      locked = eqb (lockedByte t) 1;
       «lock_time» = field 8 4 t;
       «first_failure» = field 12 4 t;
       «waiting_credential» = credentialId (reference 16 t);
@@ -134,19 +138,23 @@ freshPoint =
       «waiting_since» = 0;
     }
 
--- A credential: "uses, days, disable from the site; references NONE; last use and entered never; else zero".
-unfoldable pub freshCredential : List ℕ → CredentialState
-freshCredential s =
+-- A credential of these uses, days and disable: "references NONE; last use and entered never; else zero".
+unfoldable pub freshWith : ℕ → ℕ → ℕ → CredentialState
+freshWith uses days disable =
     record {
-      uses = usesGiven s;
-      days = daysGiven s;
+      uses = uses;
+      days = days;
       «last_use» = NEVER;
       zone = zoneId NONE;
       entered = NEVER;
       «last_event» = 0;
-      disable = disableGiven s;
+      disable = disable;
       «last_point» = pointId NONE;
     }
+
+-- "uses, days, disable from the site".
+unfoldable pub freshCredential : List ℕ → CredentialState
+freshCredential s = freshWith (usesGiven s) (daysGiven s) (disableGiven s)
 
 -- The fresh record of a site record; "Rule, factor: zero", and so is a zone's.
 unfoldable pub freshRecord : List ℕ → List ℕ
@@ -173,7 +181,7 @@ failuresWell failures most = if eqb most 0 then eqb failures 0 else ltb failures
 -- A point: "unnamed bytes zero, fields in range, references NONE or existing, locked points wait for nobody, failures below the most".
 unfoldable pub pointWell : List (List ℕ) → List ℕ → List ℕ → Bool
 pointWell ss s t =
-    leb (field 5 1 t) 1 && clear 6 2 t && clear 24 8 t && noneOrExists ss access-credential (pointStateOf t .«waiting_credential» .0)
+    leb (lockedByte t) 1 && clear 6 2 t && clear 24 8 t && noneOrExists ss access-credential (pointStateOf t .«waiting_credential» .0)
     && (not (pointStateOf t .locked) || eqb (pointStateOf t .«waiting_credential» .0) NONE)
     && failuresWell (pointStateOf t .failures) (pointOf s .«most_failures»)
 

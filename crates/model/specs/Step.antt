@@ -7,7 +7,7 @@ use Rattle.model.specs.Words.{if_then_else_, missing}
 use Rattle.model.specs.Numbers as n
 use Rattle.model.specs.Numbers.{NONE}
 use Rattle.model.specs.Site.{zoneId, pointId, credentialId, zoneOf, pointOf, credentialOf, factorDisable}
-use Rattle.model.specs.State.{Pair, Panel, sites, find, seekZone, seekCredential, write, count, zoneBytes, pointStateOf, pointBytes, credentialStateOf, credentialBytes, freshPoint, freshCredential}
+use Rattle.model.specs.State.{Pair, Panel, sites, find, seekZone, seekCredential, write, count, zoneBytes, pointStateOf, pointBytes, credentialStateOf, credentialBytes, freshPoint, freshWith}
 use Rattle.model.specs.Entry.{operationOf, objectKind, inForm}
 use Rattle.model.specs.Checks.{factorFor, credentialRead, verdict, eventOf}
 use Rattle.model.specs.Effects.{nextTag, outcomeOf}
@@ -33,7 +33,7 @@ noPoint = record { written = false; instance = pointId NONE; state = freshPoint 
 
 -- No credential is written.
 unfoldable pub noCredential : CredentialWrite
-noCredential = record { written = false; instance = credentialId NONE; state = freshCredential [] }
+noCredential = record { written = false; instance = credentialId NONE; state = freshWith 0 0 0 }
 
 -- No zone is written.
 unfoldable pub noCount : CountWrite

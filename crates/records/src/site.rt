@@ -1,0 +1,202 @@
+// The fields of site records.
+ghost use mathlib.Core.Path.{_≡_};
+ghost use Rattle.model.specs.Site as Site;
+ghost use Rattle.model.specs.Site.{zoneOf, pointOf, credentialOf};
+ghost use Rattle.records.specs.Part.{Part};
+use super::fields::byte_at;
+use super::fields::flag_of;
+use super::fields::long_at;
+use super::fields::reference_at;
+use super::fields::short_at;
+use model::Credential;
+use model::Point;
+use model::RightsId;
+use model::Zone;
+use model::ZoneId;
+use model::layout;
+
+pub fn kind_of(part: &[u8]) -> u8
+    requires { ⌜ Part (now part) ⌝ }
+    ensures { λ r. ⌜ r ≡ Site.kind (now (part .entry)) ⌝ }
+{
+    byte_at(part, layout::KIND)
+}
+
+pub fn flags_of(part: &[u8]) -> u8
+    requires { ⌜ Part (now part) ⌝ }
+    ensures { λ r. ⌜ r ≡ Site.flags (now (part .entry)) ⌝ }
+{
+    byte_at(part, layout::FLAGS)
+}
+
+// The instance of a record: a factor's is its credential, a rule's its rights number.
+pub fn instance_of(part: &[u8]) -> u32
+    requires { ⌜ Part (now part) ⌝ }
+    ensures { λ r. ⌜ r ≡ Site.instance (now (part .entry)) ⌝ }
+{
+    long_at(part, layout::INSTANCE)
+}
+
+pub fn zone_of(part: &[u8]) -> Zone
+    requires { ⌜ Part (now part) ⌝ }
+    ensures { λ r. ⌜ r ≡ zoneOf (now (part .entry)) ⌝ }
+{
+    Zone {
+        counting: flag_of(part, layout::ZONE_FLAG_COUNTING),
+        passback: byte_at(part, layout::ZONE_PASSBACK),
+        upper_limit: long_at(part, layout::ZONE_UPPER_LIMIT),
+        lower_limit: long_at(part, layout::ZONE_LOWER_LIMIT),
+        passback_timeout: long_at(part, layout::ZONE_PASSBACK_TIMEOUT),
+    }
+}
+
+pub fn point_of(part: &[u8]) -> Point
+    requires { ⌜ Part (now part) ⌝ }
+    ensures { λ r. ⌜ r ≡ pointOf (now (part .entry)) ⌝ }
+{
+    Point {
+        out_of_service: flag_of(part, layout::POINT_FLAG_OUT_OF_SERVICE),
+        upper_enforced: flag_of(part, layout::POINT_FLAG_UPPER_ENFORCED),
+        lower_enforced: flag_of(part, layout::POINT_FLAG_LOWER_ENFORCED),
+        count_adjust: flag_of(part, layout::POINT_FLAG_COUNT_ADJUST),
+        muster: flag_of(part, layout::POINT_FLAG_MUSTER),
+        mode: byte_at(part, layout::POINT_MODE),
+        factors_wanted: byte_at(part, layout::POINT_FACTORS_WANTED),
+        zone_to: ZoneId(reference_at(part, layout::POINT_ZONE_TO)),
+        zone_from: ZoneId(reference_at(part, layout::POINT_ZONE_FROM)),
+        threat_level: byte_at(part, layout::POINT_THREAT_LEVEL),
+        most_failures: byte_at(part, layout::POINT_MOST_FAILURES),
+        factor_timeout: short_at(part, layout::POINT_FACTOR_TIMEOUT),
+        lockout_relinquish: long_at(part, layout::POINT_LOCKOUT_RELINQUISH),
+        failure_window: long_at(part, layout::POINT_FAILURE_WINDOW),
+    }
+}
+
+pub fn credential_of(part: &[u8]) -> Credential
+    requires { ⌜ Part (now part) ⌝ }
+    ensures { λ r. ⌜ r ≡ credentialOf (now (part .entry)) ⌝ }
+{
+    Credential {
+        master: flag_of(part, layout::CREDENTIAL_FLAG_MASTER),
+        passback_exempt: flag_of(part, layout::CREDENTIAL_FLAG_PASSBACK_EXEMPT),
+        occupancy_exempt: flag_of(part, layout::CREDENTIAL_FLAG_OCCUPANCY_EXEMPT),
+        trace: flag_of(part, layout::CREDENTIAL_FLAG_TRACE),
+        extended_time: flag_of(part, layout::CREDENTIAL_FLAG_EXTENDED_TIME),
+        threat_authority: byte_at(part, layout::CREDENTIAL_THREAT_AUTHORITY),
+        activation: long_at(part, layout::CREDENTIAL_ACTIVATION),
+        expiry: long_at(part, layout::CREDENTIAL_EXPIRY),
+        absentee_days: short_at(part, layout::CREDENTIAL_ABSENTEE_DAYS),
+        first_rights: RightsId(reference_at(part, layout::CREDENTIAL_FIRST_RIGHTS)),
+        second_rights: RightsId(reference_at(part, layout::CREDENTIAL_SECOND_RIGHTS)),
+    }
+}
+
+// What a credential has when it is fresh.
+pub fn uses_given(part: &[u8]) -> u16
+    requires { ⌜ Part (now part) ⌝ }
+    ensures { λ r. ⌜ r ≡ Site.usesGiven (now (part .entry)) ⌝ }
+{
+    short_at(part, layout::CREDENTIAL_USES)
+}
+
+pub fn days_given(part: &[u8]) -> u16
+    requires { ⌜ Part (now part) ⌝ }
+    ensures { λ r. ⌜ r ≡ Site.daysGiven (now (part .entry)) ⌝ }
+{
+    short_at(part, layout::CREDENTIAL_DAYS)
+}
+
+pub fn disable_given(part: &[u8]) -> u8
+    requires { ⌜ Part (now part) ⌝ }
+    ensures { λ r. ⌜ r ≡ Site.disableGiven (now (part .entry)) ⌝ }
+{
+    byte_at(part, layout::CREDENTIAL_DISABLE)
+}
+
+// ── a rule
+
+pub fn is_enabled(part: &[u8]) -> bool
+    requires { ⌜ Part (now part) ⌝ }
+    ensures { λ r. ⌜ r ≡ Site.enabled (now (part .entry)) ⌝ }
+{
+    flag_of(part, layout::RULE_FLAG_ENABLED)
+}
+
+pub fn is_negative(part: &[u8]) -> bool
+    requires { ⌜ Part (now part) ⌝ }
+    ensures { λ r. ⌜ r ≡ Site.negative (now (part .entry)) ⌝ }
+{
+    flag_of(part, layout::RULE_FLAG_NEGATIVE)
+}
+
+pub fn is_always(part: &[u8]) -> bool
+    requires { ⌜ Part (now part) ⌝ }
+    ensures { λ r. ⌜ r ≡ Site.always (now (part .entry)) ⌝ }
+{
+    flag_of(part, layout::RULE_FLAG_ALWAYS)
+}
+
+pub fn is_everywhere(part: &[u8]) -> bool
+    requires { ⌜ Part (now part) ⌝ }
+    ensures { λ r. ⌜ r ≡ Site.everywhere (now (part .entry)) ⌝ }
+{
+    flag_of(part, layout::RULE_FLAG_EVERYWHERE)
+}
+
+pub fn location_kind_of(part: &[u8]) -> u8
+    requires { ⌜ Part (now part) ⌝ }
+    ensures { λ r. ⌜ r ≡ Site.locationKind (now (part .entry)) ⌝ }
+{
+    byte_at(part, layout::RULE_LOCATION_KIND)
+}
+
+pub fn location_of(part: &[u8]) -> u32
+    requires { ⌜ Part (now part) ⌝ }
+    ensures { λ r. ⌜ r ≡ Site.location (now (part .entry)) ⌝ }
+{
+    long_at(part, layout::RULE_LOCATION)
+}
+
+pub fn weekdays_of(part: &[u8]) -> u8
+    requires { ⌜ Part (now part) ⌝ }
+    ensures { λ r. ⌜ r ≡ Site.weekdays (now (part .entry)) ⌝ }
+{
+    byte_at(part, layout::RULE_DAYS)
+}
+
+pub fn from_minute_of(part: &[u8]) -> u16
+    requires { ⌜ Part (now part) ⌝ }
+    ensures { λ r. ⌜ r ≡ Site.fromMinute (now (part .entry)) ⌝ }
+{
+    short_at(part, layout::RULE_FROM)
+}
+
+pub fn to_minute_of(part: &[u8]) -> u16
+    requires { ⌜ Part (now part) ⌝ }
+    ensures { λ r. ⌜ r ≡ Site.toMinute (now (part .entry)) ⌝ }
+{
+    short_at(part, layout::RULE_TO)
+}
+
+// ── a factor; its value is compared in its place
+
+pub fn role_of(part: &[u8]) -> u8
+    requires { ⌜ Part (now part) ⌝ }
+    ensures { λ r. ⌜ r ≡ Site.role (now (part .entry)) ⌝ }
+{
+    byte_at(part, layout::FACTOR_ROLE)
+}
+
+pub fn factor_disable_of(part: &[u8]) -> u8
+    requires { ⌜ Part (now part) ⌝ }
+    ensures { λ r. ⌜ r ≡ Site.factorDisable (now (part .entry)) ⌝ }
+{
+    byte_at(part, layout::FACTOR_DISABLE)
+}
+
+pub fn format_of(part: &[u8]) -> u8
+    requires { ⌜ Part (now part) ⌝ }
+    ensures { λ r. ⌜ r ≡ Site.format (now (part .entry)) ⌝ }
+{
+    byte_at(part, layout::FACTOR_FORMAT)
+}
