@@ -11,13 +11,15 @@ use borrow.Author.Tests.{eqb-true}
 use Rattle.octets.specs.Octets.{groups}
 use Rattle.octets.proofs.Groups.{length-groups, joined-back}
 use Rattle.model.specs.Words.{if_then_else_, all, zeros}
-use Rattle.model.specs.Site.{kind, records}
-use Rattle.model.specs.State.{Pair, Panel, paired, panel, sites, stateOf, pointBytes, credentialBytes, freshPoint, freshCredential, freshRecord, fresh}
+use Rattle.model.specs.Site.{recordKind, records}
+use Rattle.model.specs.State.{Pair, Panel, paired, panel, sites, stateOf, freshPoint, freshCredential, freshRecordAs, freshRecord, fresh}
 use Rattle.model.specs.Step.{apply, entryOutcome, after}
 use Rattle.model.proofs.Laws.{and-left, and-right, all-write, sites-apply}
 use Rattle.model.proofs.RoundTrip.{length-zone, length-point, length-credential}
 use Rattle.model.specs.declared.Entry.{Entry}
 use Rattle.model.specs.declared.Outcome.{Outcome}
+use Rattle.model.specs.declared.RecordKind.{RecordKind}
+use Rattle.model.specs.declared.RecordKind.the-variants.{OfZone, OfPoint, OfRule, OfCredential, OfFactor, OfUnknown}
 
 -- ── lists of groups of one size
 
@@ -156,12 +158,15 @@ sites-fresh (s ∷ ss) = ap (λ rs. s ∷ rs) (sites-fresh ss)
 
 pub length-freshRecord : (s : List ℕ) → length (freshRecord s) ≡ 32
 unfolding freshRecord
-length-freshRecord s = go (eqb (kind s) 2) (eqb (kind s) 4)
+length-freshRecord s = go (recordKind s)
   where
-    go : (c d : Bool) → length (if c then pointBytes freshPoint else if d then credentialBytes (freshCredential s) else zeros 32) ≡ 32
-    go true d = length-point freshPoint
-    go false true = length-credential (freshCredential s)
-    go false false = refl
+    go : (k : RecordKind) → length (freshRecordAs k s) ≡ 32
+    go OfZone = refl
+    go OfPoint = length-point freshPoint
+    go OfRule = refl
+    go OfCredential = length-credential (freshCredential s)
+    go OfFactor = refl
+    go OfUnknown = refl
 
 whole-fresh : (k : ℕ) (site : List ℕ) → length site ≡ k * 32 → all whole (freshPanel (groups 32 k site)) ≡ true
 unfolding groups whole

@@ -15,7 +15,7 @@ use Rattle.model.specs.Numbers.{NONE}
 use Rattle.model.specs.Site.{credentialId, records, kind, instance, role, pointOf, isAt, findIn}
 use Rattle.model.specs.State.{Pair, Panel, sites, find, pointStateOf, count, recordWell, panel, wellFormed}
 use Rattle.model.specs.Entry.{entryOf, entries, operationOf, objectKind, inForm}
-use Rattle.model.specs.Checks.{stillLocked, waiting, overdue, presents, identifying, confirming, factorFor, credentialRead, disabledFactor, firstOfTwo, authenticationOf, authentication, inactive, validityOf, validity, passbackViolated, atLowerLimit, atUpperLimit, authorizationOf, authorization, passage, entitlement, eventOf}
+use Rattle.model.specs.Checks.{stillLocked, waiting, overdue, presents, identifying, confirming, factorFor, credentialRead, disabledFactor, firstOfTwo, authenticationOf, authentication, inactive, validityOf, validity, passbackViolated, atLowerLimit, atUpperLimit, authorizationOf, authorization, passage, permission, entitlement, eventOf}
 use Rattle.model.specs.Effects.{named, answerWith, outcomeWith, outcomeOf}
 use Rattle.model.specs.Step.{noAnswer, zoneTo, unchanged, refuse, factorRead, numberRead, situationOf, rulesAt, factorOutcome, countOutcome, adjusted, adjustOutcome, disableOutcome, locks, serviceOutcome, workedOutcome, outcomeAs, entryOutcome, after, credentialAt}
 use Rattle.model.specs.Earned.{Authorized, EarnedAt, Earned}
@@ -149,7 +149,7 @@ record Passed (v : Situation) (rules : Verdict) (e : Entry) : Type 0 where
   is-authorized : v .credential .master ≡ false → Authorized v rules e
 
 passed-all : (v : Situation) (rules : Verdict) (e : Entry) → eventOf v rules e ≡ 1 → Passed v rules e
-unfolding eventOf entitlement
+unfolding eventOf entitlement permission
 passed-all v rules e h =
     let a = authenticated v e _ h in
     let b = valid v e _ (a .1) in

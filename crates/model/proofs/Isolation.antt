@@ -4,10 +4,11 @@ use mathlib.Core.Path.{_≡_, refl, sym, _∙_, ap, ap₂}
 use mathlib.Core.List.{List, [], _∷_, map}
 use mathlib.Core.Bool.{Bool, true, false, not, _||_}
 use lib.Dec.{eqb}
+use borrow.Author.Tests.{eqb-true}
 use Rattle.model.specs.Words.{if_then_else_, keep, all}
 use Rattle.model.specs.Numbers.{access-zone, access-point, access-credential}
-use Rattle.model.specs.Site.{records, kind, isAt}
-use Rattle.model.specs.State.{Pair, Panel, panel, sites, pointStateOf, pointBytes, freshPoint, freshRecord}
+use Rattle.model.specs.Site.{records, kind, recordKind, isAt}
+use Rattle.model.specs.State.{Pair, Panel, panel, sites, pointStateOf, pointBytes, freshPoint, freshRecordAs, freshRecord}
 use Rattle.model.specs.Entry.{entryOf, answerBytes}
 use Rattle.model.specs.Step.{outcomeAs, entryOutcome, apply, after, answers}
 use Rattle.model.specs.Lists.{Worked, History, ended}
@@ -67,12 +68,12 @@ module _ (P : Part) where
   -- A fresh point waits for nobody.
   fresh-wait : (s : List ℕ) → waitInside P (s, freshRecord s) ≡ true
   unfolding waitInside freshRecord
-  fresh-wait s = go (eqb (kind s) access-point) _
+  fresh-wait s = go (eqb (kind s) access-point) refl
     where
-      go : (c : Bool) (t : List ℕ) →
-          not c || onSide P access-credential (pointStateOf (if c then pointBytes freshPoint else t) .«waiting_credential» .0) (holds P s) ≡ true
-      go true t = rw (point-back freshPoint) (unfold freshPoint in none-side P access-credential _)
-      go false t = refl
+      go : (c : Bool) → eqb (kind s) access-point ≡ c →
+          not c || onSide P access-credential (pointStateOf (freshRecordAs (recordKind s) s) .«waiting_credential» .0) (holds P s) ≡ true
+      go true e = rw (eqb-true (kind s) access-point e, point-back freshPoint) (unfold freshPoint in none-side P access-credential _)
+      go false e = refl
 
   -- Every record of a fresh panel is inside.
   fresh-inside : (ss : List (List ℕ)) → all (inside P) ss ≡ true → all (pairInside P) (freshPanel ss) ≡ true

@@ -11,9 +11,9 @@ use Rattle.octets.specs.Octets.{field, digits, same}
 use Rattle.model.specs.Words.{if_then_else_, all, zeros, missing, bitOf}
 use Rattle.model.specs.Numbers as n
 use Rattle.model.specs.Numbers.{NONE}
-use Rattle.model.specs.Site.{credentialId, kind, instance, reference, pointOf, isAt, findIn}
+use Rattle.model.specs.Site.{credentialId, kind, recordKind, disableGiven, instance, reference, pointOf, isAt, findIn}
 use Rattle.model.specs.Accept.{clear, exists, noneOrExists, inRange, credentialInRange, namesExist}
-use Rattle.model.specs.State.{Pair, Panel, findBy, find, seek, zoneBytes, pointStateOf, pointBytes, credentialStateOf, credentialBytes, freshPoint, freshWith, freshCredential, freshRecord, zoneWell, failuresWell, pointWell, credentialWell, recordWell}
+use Rattle.model.specs.State.{Pair, Panel, findBy, find, seek, zoneBytes, pointStateOf, pointBytes, credentialStateOf, credentialBytes, freshPoint, freshWith, freshCredential, freshRecordAs, freshRecord, zoneWell, failuresWell, pointWell, credentialWell, recordWellAs, recordWell}
 use Rattle.model.specs.Checks.{identifying, confirming, factorFor, credentialRead}
 use Rattle.model.proofs.Laws.{if-holds, and-left, and-right}
 use Rattle.model.proofs.RoundTrip.{point-back, credential-back}
@@ -23,6 +23,8 @@ use Rattle.model.specs.declared.CredentialId.{CredentialId}
 use Rattle.model.specs.declared.PointState.{PointState}
 use Rattle.model.specs.declared.CredentialState.{CredentialState}
 use Rattle.model.specs.declared.Entry.{Entry}
+use Rattle.model.specs.declared.RecordKind.{RecordKind}
+use Rattle.model.specs.declared.RecordKind.the-variants.{OfZone, OfPoint, OfRule, OfCredential, OfFactor, OfUnknown}
 
 -- ── references and failures
 
@@ -109,27 +111,26 @@ module _ (ss : List (List ℕ)) (s : List ℕ) where
   unfolding recordWell zoneWell clear zoneBytes digits same
   zone-well counted k = rw k
 
+  -- The bytes of a sound state of a point, and of a credential, are well formed.
+  point-bytes-well : (p : PointState) → PointSound ss (pointOf s .«most_failures») p → pointWell ss s (pointBytes p) ≡ true
+  unfolding pointWell
+  point-bytes-well p h = rw (point-back p, locked-byte p, spare-point p, h .waits, h .free, h .fails)
+
+  credential-bytes-well : (c : CredentialState) → CredentialSound ss c → credentialWell ss (credentialBytes c) ≡ true
+  unfolding credentialWell
+  credential-bytes-well c h = rw (credential-back c, h .disabled, spare-credential c, h .inside, h .seen)
+
   -- A sound state of a point is one beside that point.
   pub point-well : (p : PointState) → kind s ≡ n.access-point → PointSound ss (pointOf s .«most_failures») p →
       recordWell ss (s, pointBytes p) ≡ true
-  unfolding recordWell pointWell
-  point-well p k h = rw (k, point-back p, locked-byte p, spare-point p, h .waits, h .free, h .fails)
+  unfolding recordWell
+  point-well p k h = rw k (point-bytes-well p h)
 
   -- A sound state of a credential is one beside a credential.
   pub credential-well : (c : CredentialState) → kind s ≡ n.access-credential → CredentialSound ss c →
       recordWell ss (s, credentialBytes c) ≡ true
-  unfolding recordWell credentialWell
-  credential-well c k h = rw (k, credential-back c, h .disabled, spare-credential c, h .inside, h .seen)
-
-  -- Zeros are one beside every other record.
-  zeros-well : eqb (kind s) n.access-point ≡ false → eqb (kind s) n.access-credential ≡ false →
-      recordWell ss (s, zeros n.record-size) ≡ true
-  unfolding recordWell zoneWell clear same
-  zeros-well p c = rw (p, c) (go (eqb (kind s) n.access-zone))
-    where
-      go : (b : Bool) → (if b then true else true) ≡ true
-      go true = refl
-      go false = refl
+  unfolding recordWell
+  credential-well c k h = rw k (credential-bytes-well c h)
 
 -- ── a well-formed record holds such a state
 
@@ -269,22 +270,22 @@ module _ (ss : List (List ℕ)) (names : all (namesExist ss) ss ≡ true) where
 
 -- The fresh record of a site record in range.
 fresh-record : (ss : List (List ℕ)) (s : List ℕ) → inRange s ≡ true → recordWell ss (s, freshRecord s) ≡ true
-unfolding freshRecord
-fresh-record ss s r = go (eqb (kind s) n.access-point) (eqb (kind s) n.access-credential) refl refl
+unfolding freshRecord recordWell zoneWell clear same freshCredential
+fresh-record ss s r = go (recordKind s) refl
   where
-    disable-fits : kind s ≡ n.access-credential → leb (field 2 1 s) n.largest-disable ≡ true
+    disable-fits : recordKind s ≡ OfCredential → leb (disableGiven s) n.largest-disable ≡ true
     disable-fits k =
         unfold inRange credentialInRange in
         let f = rw k at r in
         search (and-left, and-right)
 
-    go : (c d : Bool) → eqb (kind s) n.access-point ≡ c → eqb (kind s) n.access-credential ≡ d →
-        recordWell ss (s, if c then pointBytes freshPoint else if d then credentialBytes (freshCredential s) else zeros n.record-size) ≡ true
-    go true d p c = point-well ss s freshPoint (eqb-true (kind s) n.access-point p) (fresh-point ss _)
-    go false true p c =
-        let k = eqb-true (kind s) n.access-credential c in
-        credential-well ss s (freshCredential s) k (unfold freshCredential in fresh-credential ss _ _ _ (disable-fits k))
-    go false false p c = zeros-well ss s p c
+    go : (k : RecordKind) → recordKind s ≡ k → recordWellAs k ss (s, freshRecordAs k s) ≡ true
+    go OfZone k = refl
+    go OfPoint k = point-bytes-well ss s freshPoint (fresh-point ss _)
+    go OfRule k = refl
+    go OfCredential k = credential-bytes-well ss s (freshCredential s) (fresh-credential ss _ _ _ (disable-fits k))
+    go OfFactor k = refl
+    go OfUnknown k = refl
 
 -- The fresh panel of site records in range is well formed.
 pub well-fresh : (ss ts : List (List ℕ)) → all inRange ts ≡ true → all (recordWell ss) (freshPanel ts) ≡ true

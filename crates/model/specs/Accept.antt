@@ -7,7 +7,9 @@ use lib.ListN.{take, drop}
 use Rattle.octets.specs.Octets.{same}
 use Rattle.model.specs.Words.{if_then_else_, any, zeros, within, missing}
 use Rattle.model.specs.Numbers.{NONE, minutes-of-day, access-zone, access-point, access-rule, access-credential, authentication-factor, passback-soft, mode-deny-all, two-factors, role-identifying, role-confirming, factor-destroyed, format-error, largest-disable, largest-threat}
-use Rattle.model.specs.Site.{kind, flags, instance, zoneOf, pointOf, credentialOf, disableGiven, everywhere, locationKind, weekdays, location, fromMinute, toMinute, role, factorDisable, format, value, isAt, findIn}
+use Rattle.model.specs.Site.{kind, recordKind, flags, instance, zoneOf, pointOf, credentialOf, disableGiven, everywhere, locationKind, weekdays, location, fromMinute, toMinute, role, factorDisable, format, value, isAt, findIn}
+use Rattle.model.specs.declared.RecordKind.{RecordKind}
+use Rattle.model.specs.declared.RecordKind.the-variants.{OfZone, OfPoint, OfRule, OfCredential, OfFactor, OfUnknown}
 
 -- ── refusal 2: "a record's kind, field or spare byte out of range". "Enumerations and bounds given here are the field ranges; an
 -- instance is real unless NONE is allowed."
@@ -57,16 +59,18 @@ factorInRange s =
     eqb (flags s) 0 && within role-identifying role-confirming (role s) && leb (factorDisable s) factor-destroyed
     && ltb format-error (format s) && clear 9 7 s && clear 24 8 s
 
--- "a record's kind, field or spare byte": any of the five kinds, with a real instance.
+-- "a record's kind, field": any of the five kinds, its fields in their ranges.
+abbrev pub inRangeAs : RecordKind → List ℕ → Bool
+inRangeAs OfZone s = zoneInRange s
+inRangeAs OfPoint s = pointInRange s
+inRangeAs OfRule s = ruleInRange s
+inRangeAs OfCredential s = credentialInRange s
+inRangeAs OfFactor s = factorInRange s
+inRangeAs OfUnknown s = false
+
+-- The same with a real instance.
 unfoldable pub inRange : List ℕ → Bool
-inRange s =
-    real (instance s)
-    && (if eqb (kind s) access-zone then zoneInRange s else
-    if eqb (kind s) access-point then pointInRange s else
-    if eqb (kind s) access-rule then ruleInRange s else
-    if eqb (kind s) access-credential then credentialInRange s else
-    if eqb (kind s) authentication-factor then factorInRange s else
-    false)
+inRange s = real (instance s) && inRangeAs (recordKind s) s
 
 -- ── refusal 3: "Twice the same: two zones, points or credentials of one instance; two identifying factors alike in format and value;
 -- two confirming ones alike in credential, format and value."
@@ -78,12 +82,17 @@ twinFactors s t =
     && (eqb (role s) role-identifying || eqb (instance s) (instance t))
 
 -- "two zones, points or credentials of one instance", or two such factors; rules are never twins.
+abbrev pub twinsAs : RecordKind → List ℕ → List ℕ → Bool
+twinsAs OfZone s t = eqb (instance s) (instance t)
+twinsAs OfPoint s t = eqb (instance s) (instance t)
+twinsAs OfRule s t = false
+twinsAs OfCredential s t = eqb (instance s) (instance t)
+twinsAs OfFactor s t = twinFactors s t
+twinsAs OfUnknown s t = eqb (instance s) (instance t)
+
+-- Both of one kind.
 unfoldable pub twins : List ℕ → List ℕ → Bool
-twins s t =
-    eqb (kind s) (kind t)
-    && (if eqb (kind s) access-rule then false else
-    if eqb (kind s) authentication-factor then twinFactors s t else
-    eqb (instance s) (instance t))
+twins s t = eqb (kind s) (kind t) && twinsAs (recordKind s) s t
 
 -- "the same twice": two of the records.
 unfoldable pub twice : List (List ℕ) → Bool
@@ -101,11 +110,16 @@ exists ss k i = not (missing (findIn (isAt k i) ss))
 unfoldable pub noneOrExists : List (List ℕ) → ℕ → ℕ → Bool
 noneOrExists ss k i = eqb i NONE || exists ss k i
 
--- The location kinds 1 and 2 are the kinds of zone and point.
-unfoldable pub namesExist : List (List ℕ) → List ℕ → Bool
-namesExist ss s =
-    if eqb (kind s) access-point then
+-- "A point's zone, a factor's credential and, unless everywhere, a rule's location". The location kinds 1 and 2 are those of zone and point.
+abbrev pub namesExistAs : RecordKind → List (List ℕ) → List ℕ → Bool
+namesExistAs OfZone ss s = true
+namesExistAs OfPoint ss s =
     noneOrExists ss access-zone (pointOf s .«zone_to» .0) && noneOrExists ss access-zone (pointOf s .«zone_from» .0)
-    else if eqb (kind s) access-rule then everywhere s || exists ss (locationKind s) (location s)
-    else if eqb (kind s) authentication-factor then exists ss access-credential (instance s)
-    else true
+namesExistAs OfRule ss s = everywhere s || exists ss (locationKind s) (location s)
+namesExistAs OfCredential ss s = true
+namesExistAs OfFactor ss s = exists ss access-credential (instance s)
+namesExistAs OfUnknown ss s = true
+
+-- What a record names is there.
+unfoldable pub namesExist : List (List ℕ) → List ℕ → Bool
+namesExist ss s = namesExistAs (recordKind s) ss s

@@ -250,11 +250,14 @@ passage v next =
     if v .point .«count_adjust» && v .«zone_to» .counting && eqb (v .«count_to») n.largest-count then n.denied-other
     else next
 
--- Steps 5 to 11, which ask nothing of the factor that was read. Step 6: "Master exemption skips to 11."
+-- Steps 6 to 11: "Master exemption skips to 11."
+unfoldable pub permission : Situation → Verdict → Entry → ℕ → ℕ
+permission v rules e next =
+    if v .credential .master then passage v next else authorization (authorizationOf v rules e) (passage v next)
+
+-- Steps 5 to 11, which ask nothing of the factor that was read.
 unfoldable pub entitlement : Situation → Verdict → Entry → ℕ → ℕ
-entitlement v rules e next =
-    validity (validityOf v e)
-    (if v .credential .master then passage v next else authorization (authorizationOf v rules e) (passage v next))
+entitlement v rules e next = validity (validityOf v e) (permission v rules e next)
 
 -- The event: "The first step that gives an event ends the checks." "12. Event 1."
 unfoldable pub eventOf : Situation → Verdict → Entry → ℕ

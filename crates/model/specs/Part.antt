@@ -7,11 +7,13 @@ use lib.Dec.{eqb}
 use Rattle.model.specs.Words.{if_then_else_, keep, all, missing}
 use Rattle.model.specs.Numbers as n
 use Rattle.model.specs.Numbers.{NONE}
-use Rattle.model.specs.Site.{zoneId, pointId, credentialId, rightsId, records, kind, instance, pointOf, credentialOf, findIn}
+use Rattle.model.specs.Site.{zoneId, pointId, credentialId, rightsId, records, kind, recordKind, instance, pointOf, credentialOf, findIn}
 use Rattle.model.specs.State.{Pair, panel}
 use Rattle.model.specs.Entry.{entryOf, operationOf, objectKind}
 use Rattle.model.specs.Checks.{identifying}
 use Rattle.model.specs.Lists.{Worked, refusalIn, History, ended, worked}
+use Rattle.model.specs.declared.RecordKind.{RecordKind}
+use Rattle.model.specs.declared.RecordKind.the-variants.{OfZone, OfPoint, OfRule, OfCredential, OfFactor, OfUnknown}
 use Rattle.model.specs.declared.ZoneId.{ZoneId}
 use Rattle.model.specs.declared.PointId.{PointId}
 use Rattle.model.specs.declared.CredentialId.{CredentialId}
@@ -62,11 +64,17 @@ credentialInside P s =
     || onSide P n.access-rule (credentialOf s .«first_rights» .0) true && onSide P n.access-rule (credentialOf s .«second_rights» .0) true
 
 -- Both, of any site record.
+abbrev pub insideAs : RecordKind → Part → List ℕ → Bool
+insideAs OfZone P s = true
+insideAs OfPoint P s = pointInside P s
+insideAs OfRule P s = true
+insideAs OfCredential P s = credentialInside P s
+insideAs OfFactor P s = true
+insideAs OfUnknown P s = true
+
+-- By its kind.
 unfoldable pub inside : Part → List ℕ → Bool
-inside P s =
-    if eqb (kind s) n.access-point then pointInside P s else
-    if eqb (kind s) n.access-credential then credentialInside P s else
-    true
+inside P s = insideAs (recordKind s) P s
 
 -- ── "In both lists: no factor read names, as identifying factor, a credential across the border." Asked of reads that are not refused.
 

@@ -6,11 +6,13 @@ use lib.Dec.{eqb}
 use lib.ListN.{length, take, drop}
 use Rattle.octets.specs.Octets.{field, groups}
 use Rattle.model.specs.Words.{if_then_else_, bit}
-use Rattle.model.specs.Numbers.{NONE, record-size, access-zone, access-point, access-rule, access-credential}
+use Rattle.model.specs.Numbers.{NONE, record-size, access-zone, access-point, access-rule, access-credential, authentication-factor}
 use Rattle.model.specs.declared.ZoneId.{ZoneId}
 use Rattle.model.specs.declared.PointId.{PointId}
 use Rattle.model.specs.declared.CredentialId.{CredentialId}
 use Rattle.model.specs.declared.RightsId.{RightsId}
+use Rattle.model.specs.declared.RecordKind.{RecordKind}
+use Rattle.model.specs.declared.RecordKind.the-variants.{OfZone, OfPoint, OfRule, OfCredential, OfFactor, OfUnknown}
 use Rattle.model.specs.declared.Zone.{Zone}
 use Rattle.model.specs.declared.Point.{Point}
 use Rattle.model.specs.declared.Credential.{Credential}
@@ -37,6 +39,16 @@ records site = groups record-size (length site / record-size) site
 -- "0 kind".
 abbrev pub kind : List ℕ → ℕ
 kind s = field 0 1 s
+
+-- Its name: "Kind 1, zone", "Kind 2, point", "Kind 3, rule", "Kind 4, credential", "Kind 5, factor".
+abbrev pub recordKind : List ℕ → RecordKind
+recordKind s =
+    if eqb (kind s) access-zone then OfZone else
+    if eqb (kind s) access-point then OfPoint else
+    if eqb (kind s) access-rule then OfRule else
+    if eqb (kind s) access-credential then OfCredential else
+    if eqb (kind s) authentication-factor then OfFactor else
+    OfUnknown
 
 -- "1 flags".
 abbrev pub flags : List ℕ → ℕ

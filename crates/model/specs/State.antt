@@ -7,8 +7,10 @@ use lib.ListN.{length, take, drop}
 use Rattle.octets.specs.Octets.{field, digits}
 use Rattle.model.specs.Words.{if_then_else_, all, zeros, bitOf}
 use Rattle.model.specs.Numbers.{NONE, NEVER, record-size, access-zone, access-point, access-credential, largest-disable}
-use Rattle.model.specs.Site.{zoneId, pointId, credentialId, kind, reference, pointOf, disableGiven, usesGiven, daysGiven, isAt, records}
+use Rattle.model.specs.Site.{zoneId, pointId, credentialId, recordKind, reference, pointOf, disableGiven, usesGiven, daysGiven, isAt, records}
 use Rattle.model.specs.Accept.{clear, noneOrExists}
+use Rattle.model.specs.declared.RecordKind.{RecordKind}
+use Rattle.model.specs.declared.RecordKind.the-variants.{OfZone, OfPoint, OfRule, OfCredential, OfFactor, OfUnknown}
 use Rattle.model.specs.declared.ZoneId.{ZoneId}
 use Rattle.model.specs.declared.CredentialId.{CredentialId}
 use Rattle.model.specs.declared.PointState.{PointState}
@@ -157,11 +159,17 @@ unfoldable pub freshCredential : List ℕ → CredentialState
 freshCredential s = freshWith (usesGiven s) (daysGiven s) (disableGiven s)
 
 -- The fresh record of a site record; "Rule, factor: zero", and so is a zone's.
+abbrev pub freshRecordAs : RecordKind → List ℕ → List ℕ
+freshRecordAs OfZone s = zeros record-size
+freshRecordAs OfPoint s = pointBytes freshPoint
+freshRecordAs OfRule s = zeros record-size
+freshRecordAs OfCredential s = credentialBytes (freshCredential s)
+freshRecordAs OfFactor s = zeros record-size
+freshRecordAs OfUnknown s = zeros record-size
+
+-- By its kind.
 unfoldable pub freshRecord : List ℕ → List ℕ
-freshRecord s =
-    if eqb (kind s) access-point then pointBytes freshPoint else
-    if eqb (kind s) access-credential then credentialBytes (freshCredential s) else
-    zeros record-size
+freshRecord s = freshRecordAs (recordKind s) s
 
 -- The fresh state of a site.
 unfoldable pub fresh : List ℕ → List ℕ
@@ -193,12 +201,17 @@ credentialWell ss t =
     && noneOrExists ss access-point (credentialStateOf t .«last_point» .0)
 
 -- A state record, beside its site record, in a site of the records ss.
+abbrev pub recordWellAs : RecordKind → List (List ℕ) → Pair → Bool
+recordWellAs OfZone ss x = zoneWell (x .1)
+recordWellAs OfPoint ss x = pointWell ss (x .0) (x .1)
+recordWellAs OfRule ss x = clear 0 record-size (x .1)
+recordWellAs OfCredential ss x = credentialWell ss (x .1)
+recordWellAs OfFactor ss x = clear 0 record-size (x .1)
+recordWellAs OfUnknown ss x = clear 0 record-size (x .1)
+
+-- By the kind of its site record.
 unfoldable pub recordWell : List (List ℕ) → Pair → Bool
-recordWell ss x =
-    if eqb (kind (x .0)) access-zone then zoneWell (x .1) else
-    if eqb (kind (x .0)) access-point then pointWell ss (x .0) (x .1) else
-    if eqb (kind (x .0)) access-credential then credentialWell ss (x .1) else
-    clear 0 record-size (x .1)
+recordWell ss x = recordWellAs (recordKind (x .0)) ss x
 
 -- "Well formed": every state record is.
 unfoldable pub wellFormed : List ℕ → List ℕ → Bool

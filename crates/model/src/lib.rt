@@ -13,6 +13,16 @@ pub struct CredentialId(pub u32);
 
 pub struct RightsId(pub u32);
 
+// The kinds of site records.
+pub enum RecordKind {
+    OfZone,
+    OfPoint,
+    OfRule,
+    OfCredential,
+    OfFactor,
+    OfUnknown,
+}
+
 // The fields of a zone's site record.
 pub struct Zone {
     pub counting: bool,

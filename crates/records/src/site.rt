@@ -10,16 +10,36 @@ use super::fields::reference_at;
 use super::fields::short_at;
 use model::Credential;
 use model::Point;
+use model::RecordKind;
 use model::RightsId;
 use model::Zone;
 use model::ZoneId;
 use model::layout;
+use model::numbers::ACCESS_CREDENTIAL;
+use model::numbers::ACCESS_POINT;
+use model::numbers::ACCESS_RULE;
+use model::numbers::ACCESS_ZONE;
+use model::numbers::AUTHENTICATION_FACTOR;
 
 pub fn kind_of(part: &[u8]) -> u8
     requires { ⌜ Part (now part) ⌝ }
     ensures { λ r. ⌜ r ≡ Site.kind (now (part .entry)) ⌝ }
 {
     byte_at(part, layout::KIND)
+}
+
+pub fn record_kind_of(part: &[u8]) -> RecordKind
+    requires { ⌜ Part (now part) ⌝ }
+    ensures { λ r. ⌜ r ≡ Site.recordKind (now (part .entry)) ⌝ }
+{
+    match kind_of(part) {
+        ACCESS_ZONE => RecordKind::OfZone,
+        ACCESS_POINT => RecordKind::OfPoint,
+        ACCESS_RULE => RecordKind::OfRule,
+        ACCESS_CREDENTIAL => RecordKind::OfCredential,
+        AUTHENTICATION_FACTOR => RecordKind::OfFactor,
+        _ => RecordKind::OfUnknown,
+    }
 }
 
 pub fn flags_of(part: &[u8]) -> u8
