@@ -115,10 +115,10 @@ pub apply-at : (site state : List ℕ) → length site % 32 ≡ 0 → length sta
     (panel site (applied o at state) ≡ apply o (panel site state)) × (length (applied o at state) ≡ length site)
 unfolding applied apply
 apply-at site state w l o at h =
-    let a = write-at site state w l (o .«zone_from» .written) 1 (o .«zone_from» .instance) (zoneBytes (o .«zone_from» .count)) (at .«zone_from») (length-zone _) (h .zone-from) in
-    let b = write-at site _ w (a .1) (o .«zone_to» .written) 1 (o .«zone_to» .instance) (zoneBytes (o .«zone_to» .count)) (at .«zone_to») (length-zone _) (h .zone-to) in
-    let c = write-at site _ w (b .1) (o .credential .written) 4 (o .credential .instance) (credentialBytes (o .credential .state)) (at .credential) (length-credential _) (h .credential) in
-    let d = write-at site _ w (c .1) (o .point .written) 2 (o .point .instance) (pointBytes (o .point .state)) (at .point) (length-point _) (h .point) in
+    let a = write-at site state w l (o .«zone_from» .written) 1 (o .«zone_from» .instance .0) (zoneBytes (o .«zone_from» .count)) (at .«zone_from») (length-zone _) (h .zone-from) in
+    let b = write-at site _ w (a .1) (o .«zone_to» .written) 1 (o .«zone_to» .instance .0) (zoneBytes (o .«zone_to» .count)) (at .«zone_to») (length-zone _) (h .zone-to) in
+    let c = write-at site _ w (b .1) (o .credential .written) 4 (o .credential .instance .0) (credentialBytes (o .credential .state)) (at .credential) (length-credential _) (h .credential) in
+    let d = write-at site _ w (c .1) (o .point .written) 2 (o .point .instance .0) (pointBytes (o .point .state)) (at .point) (length-point _) (h .point) in
     (d .0 ∙ ap (write _ 2 _ _) (c .0 ∙ ap (write _ 4 _ _) (b .0 ∙ ap (write _ 1 _ _) (a .0))), d .1)
 
 -- The state is what its panel holds.

@@ -1,123 +1,66 @@
--- What decides an entry on bytes is the outcome of the entry at the panel.
+-- What is decided of an entry on bytes is its outcome at the panel, and its places are those of the records that it names.
 use Prim.Native.Nat.{ℕ, _/_, _%_, _<_}
 use native.Mathlib.Omega.{arith}
 use mathlib.Core.Path.{_≡_, refl, sym, _∙_, ap}
 use mathlib.Core.List.{List, [], _∷_}
-use mathlib.Core.Bool.{Bool, true, false}
+use mathlib.Core.Bool.{Bool, true, false, not}
 use lib.Dec.{ltb}
 use lib.ListN.{length}
 use Rattle.octets.proofs.Groups.{length-groups, length-group}
 use Rattle.model.specs.Words.{if_then_else_, missing}
 use Rattle.model.specs.Numbers as n
 use Rattle.model.specs.Site.{records, pointOf}
-use Rattle.model.specs.State.{panel, stateOf, find, count, pointStateOf, credentialStateOf}
+use Rattle.model.specs.State.{panel, stateOf, find, count}
 use Rattle.model.specs.Entry.{operationOf, objectKind, inForm}
-use Rattle.model.specs.Checks.{verdict, eventOf}
-use Rattle.model.specs.Effects.{outcomeOf}
-use Rattle.model.specs.Step.{noPoint, noCredential, noCount, noAnswer, unchanged, refuse, zoneTo, factorOutcome, countOutcome, adjusted, adjustOutcome, disableOutcome, serviceOutcome, workedOutcome, outcomeAs, entryOutcome, apply}
+use Rattle.model.specs.Step.{noPoint, noCredential, noCount, unchanged, refuse, zoneTo, factorOutcome, countOutcome, adjusted, adjustOutcome, disableOutcome, serviceOutcome, workedOutcome, outcomeAs, entryOutcome, apply}
+use Rattle.model.proofs.Laws.{if-holds}
 use Rattle.site.specs.Place.{placeOf}
 use Rattle.site.proofs.Places.{place-found}
-use Rattle.journal.specs.Places.{partAt, applied, Placed}
+use Rattle.journal.specs.Places.{partAt, objectPlace, applied, Placed}
 use Rattle.journal.specs.Gather.{toAt, countTo, gathered}
-use Rattle.journal.specs.Decide.{objectPlaces, atObject, Decides}
+use Rattle.journal.specs.Decide.{readOutcome, objectPlaces, atObject, readAt, workedAt, foundAt, decidedAs, decidedOn}
 use Rattle.journal.proofs.At.{find-at, seek-at, apply-at, state-of}
-use Rattle.journal.proofs.Views.{view-at, rules-at, placed-factor}
+use Rattle.journal.proofs.Situations.{situation-at, rules-at, placed-factor}
 use Rattle.site.specs.declared.Place.{Place}
 use Rattle.site.specs.declared.Place.the-variants.{At, Nothing}
-use Rattle.journal.specs.declared.Decided.{Decided}
+use Rattle.journal.specs.declared.Places.{Places}
 use Rattle.model.specs.declared.Answer.{Answer}
-use Rattle.model.specs.declared.CredentialState.{CredentialState}
 use Rattle.model.specs.declared.Entry.{Entry}
 use Rattle.model.specs.declared.Outcome.{Outcome}
-use Rattle.model.specs.declared.PointState.{PointState}
-use Rattle.model.specs.declared.Verdict.{Verdict}
-use Rattle.model.specs.declared.Operation.the-variants.{SetCount, AdjustCount, SetDisable, SetService}
+use Rattle.model.specs.declared.Operation.{Operation}
+use Rattle.model.specs.declared.Operation.the-variants.{Factor, SetCount, AdjustCount, SetDisable, SetService, Unknown}
 
--- ── outcomes at the place of their object
+-- ── the places of what is written
 
-placed-unchanged : (site : List ℕ) (a : Answer) (place : Place) → Placed site (unchanged a) (objectPlaces place)
+-- What writes nothing names nothing.
+placed-unchanged : (site : List ℕ) (a : Answer) (at : Places) → Placed site (unchanged a) at
 unfolding unchanged noPoint noCredential noCount
-placed-unchanged site a place = record { point = λ h. cc; credential = λ h. cc; zone-to = λ h. cc; zone-from = λ h. cc }
+placed-unchanged site a at = record { point = λ h. cc; credential = λ h. cc; zone-to = λ h. cc; zone-from = λ h. cc }
 
-module _ (site : List ℕ) (e : Entry) (place : Place) where
+placed-refused : (site : List ℕ) (refusal : ℕ) (at : Places) → Placed site (refuse refusal) at
+unfolding refuse
+placed-refused site refusal at = placed-unchanged site _ at
+
+module _ (site state : List ℕ) (e : Entry) (place : Place) where
   placed-count : (counted : ℕ) → place ≡ placeOf n.access-zone (e .instance) site → Placed site (countOutcome e counted) (objectPlaces place)
   unfolding countOutcome noPoint noCredential noCount
   placed-count counted p = record { point = λ h. cc; credential = λ h. cc; zone-to = λ h. p; zone-from = λ h. cc }
 
-  placed-adjust : (counted : ℕ) → place ≡ placeOf n.access-zone (e .instance) site → Placed site (adjustOutcome e counted) (objectPlaces place)
-  unfolding adjustOutcome
-  placed-adjust counted p = go (ltb n.largest-count (adjusted counted (e .amount)))
-    where
-      go : (c : Bool) → Placed site (if c then refuse n.refused-count else countOutcome e (adjusted counted (e .amount))) (objectPlaces place)
-      go true = unfold refuse in placed-unchanged site (noAnswer n.refused-count 0 0) place
-      go false = placed-count (adjusted counted (e .amount)) p
+  placed-worked : (o : Operation) → place ≡ placeOf (objectKind o) (e .instance) site →
+      Placed site (workedAt o place e site state .outcome) (workedAt o place e site state .places)
+  unfolding readAt readOutcome adjustOutcome disableOutcome serviceOutcome noPoint noCredential noCount
+  placed-worked Factor p =
+      if-holds (λ u. Placed site u (gathered place e site state .places)) (gathered place e site state .situation .point .«out_of_service») (unchanged _) _
+      (placed-unchanged site _ _) (placed-factor site state place e _ p)
+  placed-worked SetCount p = placed-count (e .amount) p
+  placed-worked AdjustCount p =
+      if-holds (λ u. Placed site u (objectPlaces place)) (ltb n.largest-count (adjusted (count (partAt place state)) (e .amount))) (refuse n.refused-count) _
+      (placed-refused site _ _) (placed-count _ p)
+  placed-worked SetDisable p = record { point = λ h. cc; credential = λ h. p; zone-to = λ h. cc; zone-from = λ h. cc }
+  placed-worked SetService p = record { point = λ h. p; credential = λ h. cc; zone-to = λ h. cc; zone-from = λ h. cc }
+  placed-worked Unknown p = placed-refused site _ _
 
-  placed-disable : (c : CredentialState) → place ≡ placeOf n.access-credential (e .instance) site → Placed site (disableOutcome e c) (objectPlaces place)
-  unfolding disableOutcome noPoint noCredential noCount
-  placed-disable c p = record { point = λ h. cc; credential = λ h. p; zone-to = λ h. cc; zone-from = λ h. cc }
-
-  placed-service : (q : PointState) (counted : ℕ) → place ≡ placeOf n.access-point (e .instance) site → Placed site (serviceOutcome e q counted) (objectPlaces place)
-  unfolding serviceOutcome noPoint noCredential noCount
-  placed-service q counted p = record { point = λ h. p; credential = λ h. cc; zone-to = λ h. cc; zone-from = λ h. cc }
-
--- A decision that is an outcome at its object's place.
-decided : (site : List ℕ) (o u : Outcome) (place : Place) (d : Decided) → d ≡ atObject o place → o ≡ u → Placed site o (objectPlaces place) → Decides site u d
-decided site o u place d e q p = rw e (record { outcome = q; placed = p })
-
-pub decided-refused : (site : List ℕ) (refusal : ℕ) (place : Place) (u : Outcome) (d : Decided) → d ≡ atObject (refuse refusal) place → refuse refusal ≡ u → Decides site u d
-unfolding refuse
-decided-refused site refusal place u d e q = decided site (refuse refusal) u place d e q (placed-unchanged site (noAnswer refusal 0 0) place)
-
--- ── the operations
-
-module _ (site state : List ℕ) (whole-site : length site % 32 ≡ 0) (same-length : length state ≡ length site) (e : Entry) (place : Place) (d : Decided) where
-  found : (k : ℕ) → place ≡ placeOf k (e .instance) site → find k (e .instance) (panel site state) ≡ (partAt place site, partAt place state)
-  found k p = rw p (find-at site state whole-site same-length k (e .instance))
-
-  zone-count : count (zoneTo (panel site state) (partAt place site, partAt place state) .1) ≡ countTo place site state
-  unfolding zoneTo countTo toAt
-  zone-count = rw (seek-at site state whole-site same-length 1 (pointOf (partAt place site) .«zone_to»))
-
-  pub decided-away : place ≡ placeOf n.access-point (e .instance) site → pointOf (partAt place site) .«out_of_service» ≡ true →
-      d ≡ atObject (unchanged (noAnswer n.not-refused (pointStateOf (partAt place state) .tag) (countTo place site state))) place →
-      Decides site (factorOutcome (panel site state) e (find n.access-point (e .instance) (panel site state))) d
-  unfolding factorOutcome
-  decided-away p s q =
-      rw (found n.access-point p, s, zone-count) (decided site _ _ place d q refl (placed-unchanged site _ place))
-
-  pub decided-read : place ≡ placeOf n.access-point (e .instance) site → pointOf (partAt place site) .«out_of_service» ≡ false →
-      (rules : Verdict) →
-      eventOf (gathered place e site state .view) rules e
-      ≡ eventOf (gathered place e site state .view) (verdict (gathered place e site state .view .credential .«first_rights») (gathered place e site state .view .credential .«second_rights») (e .instance) (gathered place e site state .view .point .«zone_to») (e .time) (records site)) e →
-      d ≡ record { outcome = outcomeOf (gathered place e site state .view) e (eventOf (gathered place e site state .view) rules e); places = gathered place e site state .places } →
-      Decides site (factorOutcome (panel site state) e (find n.access-point (e .instance) (panel site state))) d
-  unfolding factorOutcome
-  decided-read p s rules same-event q =
-      rw (found n.access-point p, s, view-at site state whole-site same-length place e, rules-at site state whole-site same-length place e, q)
-      (record {
-        outcome = ap (outcomeOf (gathered place e site state .view) e) same-event;
-        placed = placed-factor site state place e _ p;
-      })
-
-  pub decided-count : place ≡ placeOf n.access-zone (e .instance) site → d ≡ atObject (countOutcome e (e .amount)) place →
-      Decides site (workedOutcome SetCount (panel site state) e (find n.access-zone (e .instance) (panel site state))) d
-  decided-count p q = decided site (countOutcome e (e .amount)) _ place d q refl (placed-count site e place (e .amount) p)
-
-  pub decided-adjust : place ≡ placeOf n.access-zone (e .instance) site → d ≡ atObject (adjustOutcome e (count (partAt place state))) place →
-      Decides site (workedOutcome AdjustCount (panel site state) e (find n.access-zone (e .instance) (panel site state))) d
-  decided-adjust p q = rw (found n.access-zone p) (decided site (adjustOutcome e (count (partAt place state))) _ place d q refl (placed-adjust site e place (count (partAt place state)) p))
-
-  pub decided-disable : place ≡ placeOf n.access-credential (e .instance) site → d ≡ atObject (disableOutcome e (credentialStateOf (partAt place state))) place →
-      Decides site (workedOutcome SetDisable (panel site state) e (find n.access-credential (e .instance) (panel site state))) d
-  decided-disable p q = rw (found n.access-credential p) (decided site (disableOutcome e (credentialStateOf (partAt place state))) _ place d q refl (placed-disable site e place (credentialStateOf (partAt place state)) p))
-
-  pub decided-service : place ≡ placeOf n.access-point (e .instance) site → d ≡ atObject (serviceOutcome e (pointStateOf (partAt place state)) (countTo place site state)) place →
-      Decides site (workedOutcome SetService (panel site state) e (find n.access-point (e .instance) (panel site state))) d
-  decided-service p q =
-      rw (found n.access-point p, zone-count)
-      (decided site (serviceOutcome e (pointStateOf (partAt place state)) (countTo place site state)) _ place d q refl (placed-service site e place (pointStateOf (partAt place state)) (countTo place site state) p))
-
--- ── an entry
+-- ── the object
 
 missing-none : (s : List ℕ) → length s ≡ 32 → missing s ≡ false
 missing-none [] h = absurd (omega arith)
@@ -131,27 +74,79 @@ there k i j site p =
     let l : j < length site / 32 = rw (length-groups 32 (length site / 32) site) at (h .0) in
     missing-none (partAt (At j) site) (length-group 32 (length site / 32) j site l (omega arith))
 
+-- An entry that has the form is of a known operation, whose object is looked up by its kind.
+object-place : (o : Operation) (e : Entry) (site : List ℕ) → inForm o e ≡ true → objectPlace o (e .instance) site ≡ placeOf (objectKind o) (e .instance) site
+unfolding inForm
+object-place Factor e site f = refl
+object-place SetCount e site f = refl
+object-place AdjustCount e site f = refl
+object-place SetDisable e site f = refl
+object-place SetService e site f = refl
+object-place Unknown e site f = cc
+
+-- ── the outcome
+
 module _ (site state : List ℕ) (whole-site : length site % 32 ≡ 0) (same-length : length state ≡ length site) (e : Entry) where
-  pub entry-form : inForm (operationOf (e .operation)) e ≡ false → refuse n.refused-form ≡ entryOutcome (panel site state) e
-  unfolding entryOutcome outcomeAs
-  entry-form f = rw f
+  zone-count : (place : Place) → count (zoneTo (panel site state) (partAt place site, partAt place state) .1) ≡ countTo place site state
+  unfolding zoneTo countTo toAt
+  zone-count place = rw (seek-at site state whole-site same-length 1 (pointOf (partAt place site) .«zone_to» .0))
 
-  pub entry-missing : inForm (operationOf (e .operation)) e ≡ true → placeOf (objectKind (operationOf (e .operation))) (e .instance) site ≡ Nothing →
-      refuse n.refused-no-object ≡ entryOutcome (panel site state) e
-  unfolding entryOutcome outcomeAs
-  entry-missing f p = rw (f, find-at site state whole-site same-length (objectKind (operationOf (e .operation))) (e .instance), p)
+  worked-outcome : (o : Operation) (place : Place) →
+      workedAt o place e site state .outcome ≡ workedOutcome o (panel site state) e (partAt place site, partAt place state)
+  unfolding readAt readOutcome factorOutcome
+  worked-outcome Factor place =
+      rw (situation-at site state whole-site same-length place e, rules-at site state whole-site same-length place e, zone-count place) (unfold gathered countTo in refl)
+  worked-outcome SetCount place = refl
+  worked-outcome AdjustCount place = refl
+  worked-outcome SetDisable place = refl
+  worked-outcome SetService place = rw (zone-count place)
+  worked-outcome Unknown place = refl
 
-  pub entry-worked : (j : ℕ) → inForm (operationOf (e .operation)) e ≡ true → placeOf (objectKind (operationOf (e .operation))) (e .instance) site ≡ At j →
-      workedOutcome (operationOf (e .operation)) (panel site state) e (find (objectKind (operationOf (e .operation))) (e .instance) (panel site state)) ≡ entryOutcome (panel site state) e
-  unfolding entryOutcome outcomeAs
-  entry-worked j f p =
-      let m : missing (find (objectKind (operationOf (e .operation))) (e .instance) (panel site state) .0) ≡ false =
-      rw (find-at site state whole-site same-length (objectKind (operationOf (e .operation))) (e .instance), p) (there (objectKind (operationOf (e .operation))) (e .instance) j site p) in
-      rw (f, m)
+  -- Of an entry that has the form.
+  found-outcome : (o : Operation) (place : Place) → placeOf (objectKind o) (e .instance) site ≡ place →
+      foundAt o place e site state .outcome
+      ≡ (if missing (find (objectKind o) (e .instance) (panel site state) .0) then refuse n.refused-no-object
+      else workedOutcome o (panel site state) e (find (objectKind o) (e .instance) (panel site state)))
+  found-outcome o (At j) p =
+      rw (find-at site state whole-site same-length (objectKind o) (e .instance), p, there (objectKind o) (e .instance) j site p) (worked-outcome o (At j))
+  found-outcome o Nothing p = rw (find-at site state whole-site same-length (objectKind o) (e .instance), p)
 
--- What is written of a decision leaves the state of the panel after its outcome.
-pub stepped : (site state : List ℕ) → length site % 32 ≡ 0 → length state ≡ length site → (u : Outcome) (d : Decided) → Decides site u d →
-    applied (d .outcome) (d .places) state ≡ stateOf (apply u (panel site state))
-stepped site state w l u d h =
-    let a = apply-at site state w l (d .outcome) (d .places) (h .placed) in
-    sym (state-of site (applied (d .outcome) (d .places) state) w (a .1)) ∙ ap stateOf (a .0) ∙ ap (λ o. stateOf (apply o (panel site state))) (h .outcome)
+  found-placed : (o : Operation) (place : Place) → placeOf (objectKind o) (e .instance) site ≡ place →
+      Placed site (foundAt o place e site state .outcome) (foundAt o place e site state .places)
+  found-placed o (At j) p = placed-worked site state e (At j) o (sym p)
+  found-placed o Nothing p = placed-refused site _ _
+
+  -- Of any entry.
+  as-outcome : (o : Operation) → decidedAs o e site state .outcome ≡ outcomeAs o (panel site state) e (find (objectKind o) (e .instance) (panel site state))
+  unfolding decidedAs outcomeAs
+  as-outcome o = go (inForm o e) refl
+    where
+      go : (c : Bool) → inForm o e ≡ c →
+          (if not c then atObject (refuse n.refused-form) Nothing else foundAt o (objectPlace o (e .instance) site) e site state) .outcome
+          ≡ (if not c then refuse n.refused-form else
+          if missing (find (objectKind o) (e .instance) (panel site state) .0) then refuse n.refused-no-object
+          else workedOutcome o (panel site state) e (find (objectKind o) (e .instance) (panel site state)))
+      go true f = rw (object-place o e site f) (found-outcome o (placeOf (objectKind o) (e .instance) site) refl)
+      go false f = refl
+
+  as-placed : (o : Operation) → Placed site (decidedAs o e site state .outcome) (decidedAs o e site state .places)
+  unfolding decidedAs
+  as-placed o = go (inForm o e) refl
+    where
+      go : (c : Bool) → inForm o e ≡ c →
+          Placed site ((if not c then atObject (refuse n.refused-form) Nothing else foundAt o (objectPlace o (e .instance) site) e site state) .outcome)
+          ((if not c then atObject (refuse n.refused-form) Nothing else foundAt o (objectPlace o (e .instance) site) e site state) .places)
+      go true f = rw (object-place o e site f) (found-placed o (placeOf (objectKind o) (e .instance) site) refl)
+      go false f = placed-refused site _ _
+
+  pub decided-outcome : decidedOn site state e .outcome ≡ entryOutcome (panel site state) e
+  unfolding decidedOn entryOutcome
+  decided-outcome = as-outcome (operationOf (e .operation))
+
+  -- What is written of it leaves the state of the panel after the entry.
+  pub stepped : applied (decidedOn site state e .outcome) (decidedOn site state e .places) state ≡ stateOf (apply (entryOutcome (panel site state) e) (panel site state))
+  unfolding decidedOn
+  stepped =
+      let a = apply-at site state whole-site same-length (decidedOn site state e .outcome) (decidedOn site state e .places) (as-placed (operationOf (e .operation))) in
+      sym (state-of site (applied (decidedOn site state e .outcome) (decidedOn site state e .places) state) whole-site (a .1)) ∙ ap stateOf (a .0)
+      ∙ ap (λ o. stateOf (apply o (panel site state))) decided-outcome

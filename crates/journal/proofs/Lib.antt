@@ -1,5 +1,5 @@
 pub mod At
 pub mod Lookups
-pub mod Views
+pub mod Situations
 pub mod Decisions
 pub mod Loop

@@ -10,10 +10,6 @@ use Rattle.octets.specs.Octets.{groups}
 use Rattle.octets.proofs.Groups.{length-groups}
 use Rattle.model.specs.Words.{if_then_else_, missing}
 use Rattle.model.specs.Site.{findIn}
-use Rattle.model.specs.Entry.{objectKind}
-use Rattle.model.specs.declared.Operation.{Operation}
-use Rattle.model.specs.declared.Operation.the-variants.{Factor, SetCount, AdjustCount, SetDisable, SetService, Unknown}
-use Rattle.index.specs.Index.{ByInstance}
 use Rattle.site.proofs.Records.{no-bytes}
 
 -- A part was found where it has a length.
@@ -30,12 +26,3 @@ group-past i s h =
 pub find-either : (c : Bool) (p q : List ℕ → Bool) (ss : List (List ℕ)) → findIn (if not c then p else q) ss ≡ if c then findIn q ss else findIn p ss
 find-either true p q ss = refl
 find-either false p q ss = refl
-
--- The objects of operations are looked up by their instance.
-pub object-by-instance : (o : Operation) → ByInstance (objectKind o)
-object-by-instance Factor = (λ p. omega arith, λ p. omega arith)
-object-by-instance SetCount = (λ p. omega arith, λ p. omega arith)
-object-by-instance AdjustCount = (λ p. omega arith, λ p. omega arith)
-object-by-instance SetDisable = (λ p. omega arith, λ p. omega arith)
-object-by-instance SetService = (λ p. omega arith, λ p. omega arith)
-object-by-instance Unknown = (λ p. omega arith, λ p. omega arith)

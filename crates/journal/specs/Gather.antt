@@ -3,37 +3,42 @@ use Prim.Native.Nat.{ℕ}
 use mathlib.Core.List.{List}
 use mathlib.Core.Bool.{not}
 use Rattle.model.specs.Words.{missing}
-use Rattle.model.specs.Numbers as n
 use Rattle.model.specs.Site.{records, zoneOf, pointOf, credentialOf, factorDisable}
 use Rattle.model.specs.State.{count, pointStateOf, credentialStateOf}
 use Rattle.model.specs.Checks.{factorFor, credentialRead}
-use Rattle.journal.specs.Places.{partAt, seekPlace}
+use Rattle.journal.specs.Places.{partAt, seekZone, seekCredential}
 use Rattle.site.specs.declared.Place.{Place}
+use Rattle.model.specs.declared.CredentialId.{CredentialId}
 use Rattle.model.specs.declared.Entry.{Entry}
 use Rattle.journal.specs.declared.Gathered.{Gathered}
 
-unfoldable pub waitingAt : Place → List ℕ → ℕ
+-- The credential that the point waits for.
+unfoldable pub waitingAt : Place → List ℕ → CredentialId
 waitingAt place state = pointStateOf (partAt place state) .«waiting_credential»
 
+-- The factor that is read there.
 unfoldable pub factorAt : Place → Entry → List ℕ → List ℕ → List ℕ
 factorAt place e site state = factorFor (waitingAt place state) e (records site)
 
-unfoldable pub numberAt : Place → Entry → List ℕ → List ℕ → ℕ
+-- The credential that the read is about.
+unfoldable pub numberAt : Place → Entry → List ℕ → List ℕ → CredentialId
 numberAt place e site state = credentialRead (waitingAt place state) (factorAt place e site state)
 
+-- Where its Zone_To stands, its Zone_From, and that credential.
 unfoldable pub toAt : Place → List ℕ → Place
-toAt place site = seekPlace n.access-zone (pointOf (partAt place site) .«zone_to») site
+toAt place site = seekZone (pointOf (partAt place site) .«zone_to») site
 
 unfoldable pub fromAt : Place → List ℕ → Place
-fromAt place site = seekPlace n.access-zone (pointOf (partAt place site) .«zone_from») site
+fromAt place site = seekZone (pointOf (partAt place site) .«zone_from») site
 
 unfoldable pub heldAt : Place → Entry → List ℕ → List ℕ → Place
-heldAt place e site state = seekPlace n.access-credential (numberAt place e site state) site
+heldAt place e site state = seekCredential (numberAt place e site state) site
 
+-- All of it by value, and where its records stand.
 unfoldable pub gathered : Place → Entry → List ℕ → List ℕ → Gathered
 gathered place e site state =
     record {
-      view =
+      situation =
           record {
             point = pointOf (partAt place site);
             «point_state» = pointStateOf (partAt place state);

@@ -1,20 +1,15 @@
-// A journal run over lent bytes: the cursor reads an entry, its records are gathered into a view by value, the outcome is decided, and each
-// record that it writes is lent to its writer.
-pub mod reader; // reader.rt: the entry at a place of the journal, and the next
-pub mod gather; // gather.rt: the records that an entry looks at
-pub mod decide; // decide.rt: the outcome of an entry, and where its records stand
+// A journal run over lent bytes. The way of an entry goes forward: its form and its object, the records that it looks at, gathered by value, its outcome,
+// and the records that it writes, each lent to its writer.
+pub mod object; // object.rt: where the object of an entry stands
+pub mod gather; // gather.rt: the records that a factor read looks at
+pub mod decide; // decide.rt: the outcome of a factor read
 pub mod apply; // apply.rt: the state records that an outcome writes
 pub mod step; // step.rt: one entry
 pub mod run; // run.rt: all entries of a journal
 
 use model::Outcome;
-use model::View;
+use model::Situation;
 use site::Place;
-
-// Where the next entry of a journal stands.
-pub struct Cursor {
-    pub at: usize,
-}
 
 // Where the records stand that an entry may write.
 pub struct Places {
@@ -26,7 +21,7 @@ pub struct Places {
 
 // What a factor read looks at, and where its records stand.
 pub struct Gathered {
-    pub view: View,
+    pub situation: Situation,
     pub places: Places,
 }
 

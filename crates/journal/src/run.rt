@@ -8,8 +8,8 @@ ghost use Rattle.model.specs.State.{panel, stateOf};
 ghost use Rattle.model.specs.Entry.{entryOf, entries, answerBytes};
 ghost use Rattle.model.specs.Step as m;
 ghost use Rattle.index.specs.Index.{Indexed};
-use super::Cursor;
 use super::step::step;
+use entries::Cursor;
 use model::Answer;
 use model::numbers::ANSWER_SIZE;
 use model::numbers::ENTRY_SIZE;
@@ -21,7 +21,7 @@ fn put_answer(answers: &mut [u8], k: usize, a: Answer)
 {
     let start = k * ANSWER_SIZE;
     let end = start + ANSWER_SIZE;
-    records::write_answer(&mut answers[start..end], a);
+    records::entry::write_answer(&mut answers[start..end], a);
 }
 
 pub fn run(site: &[u8], index: &[u16], state: &mut [u8], journal: &[u8], answers: &mut [u8])
