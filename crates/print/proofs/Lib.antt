@@ -1,2 +1,3 @@
 pub mod LineEnd
+pub mod Text
 pub mod Buffers

@@ -1,40 +1,51 @@
 // One journal printed: its answers as text, or the number of an input that is turned back.
-pub mod numbers; // numbers.rt: the characters
-pub mod lines; // lines.rt: answers in hexadecimal digits, numbers in decimal
+pub mod numbers; // numbers.rt: the characters, and how long a line is
+mod lines; // lines.rt: answers in hexadecimal digits, numbers in decimal
 
 ghost use mathlib.Core.Path.{_≡_};
-ghost use mathlib.Core.Bool.{true};
-ghost use Prim.Native.Nat.{_*_, _/_, _≤_};
-ghost use lib.ListN.{length, take};
-ghost use Rattle.model.specs.Calls.{isWorked};
-ghost use Rattle.model.specs.Print.{fromFresh, printJournal};
+ghost use Rattle.print.specs.Print.{hasRoom, runInto, printResult, printInto};
 use model::Returned;
+use model::numbers::ENTRY_SIZE;
+use numbers::LINE_SIZE;
+use numbers::NUMBER_SIZE;
 
-// Runs a journal from fresh. State and answers are lent to work in: what they held does not matter.
-fn run_from_fresh(site: &[u8], journal: &[u8], state: &mut [u8], answers: &mut [u8]) -> Returned
-    requires { ⌜ (length (now state) ≡ length (now site)) × (length (now answers) ≡ length (now journal) / 24 * 16) ⌝ }
-    ensures { λ r. ⌜ r ≡ fromFresh (now (site .entry)) (now (journal .entry)) .returned ⌝ }
-    ensures { λ r. ⌜ (isWorked r ≡ true → now (answers .exit) ≡ fromFresh (now (site .entry)) (now (journal .entry)) .answers) ⌝ }
+// How long the text is, or that its buffer is too short.
+pub enum Printed {
+    Written(usize),
+    NoRoom,
+}
+
+// Whether there is room for every text that the journal may get.
+fn has_room(journal: &[u8], text: &[u8]) -> bool
+    ensures { λ r. ⌜ r ≡ hasRoom (now (journal .entry)) (now (text .entry)) ⌝ }
+{
+    (journal.len() / ENTRY_SIZE * LINE_SIZE <= text.len()) & (NUMBER_SIZE <= text.len())
+}
+
+// Runs a journal from fresh, in the lent state and answers.
+fn run_into(site: &[u8], journal: &[u8], state: &mut [u8], answers: &mut [u8]) -> Returned
+    ensures { λ r. ⌜ (r ≡ runInto (now (site .entry)) (now (journal .entry)) (now (state .entry)) (now (answers .entry)) .returned) × (now (state .exit) ≡ runInto (now (site .entry)) (now (journal .entry)) (now (state .entry)) (now (answers .entry)) .state) × (now (answers .exit) ≡ runInto (now (site .entry)) (now (journal .entry)) (now (state .entry)) (now (answers .entry)) .answers) ⌝ }
 {
     view::fresh_state(site, state);
     view::run_journal(site, state, journal, answers)
 }
 
-// The printed journal, at the head of the text. Returns how long it is.
+// The printed journal, at the head of the text. Without room for it no buffer is changed.
 pub fn print_journal(
     site: &[u8],
     journal: &[u8],
     state: &mut [u8],
     answers: &mut [u8],
     text: &mut [u8],
-) -> usize
-    requires { ⌜ (length (now state) ≡ length (now site)) × (length (now answers) ≡ length (now journal) / 24 * 16) ⌝ }
-    requires { ⌜ (length (now journal) / 24 * 33 ≤ length (now text)) × (3 ≤ length (now text)) ⌝ }
-    ensures { λ r. ⌜ (r ≤ length (now (text .exit))) × (take r (now (text .exit)) ≡ printJournal (now (site .entry)) (now (journal .entry))) ⌝ }
+) -> Printed
+    ensures { λ r. ⌜ printResult r (now (state .exit)) (now (answers .exit)) (now (text .exit)) ≡ printInto (now (site .entry)) (now (journal .entry)) (now (state .entry)) (now (answers .entry)) (now (text .entry)) ⌝ }
 {
-    let returned = run_from_fresh(site, journal, state, answers);
-    if panel::is_worked(returned) {
-        return lines::write_answers(answers, text);
+    if !has_room(journal, text) {
+        return Printed::NoRoom;
     }
-    lines::write_decimal_line(text, panel::number_of(returned))
+    let returned = run_into(site, journal, state, answers);
+    if panel::is_worked(returned) {
+        return Printed::Written(lines::write_answers(answers, text));
+    }
+    Printed::Written(lines::write_decimal_line(text, panel::number_of(returned)))
 }

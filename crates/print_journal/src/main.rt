@@ -1,7 +1,5 @@
 // Prints one journal: the first argument names a site file and the second a journal file, and the text goes to standard output.
 // Where an argument is missing, or a file cannot be read, a message goes to standard error, and nothing is printed.
-ghost use Prim.Native.Nat.{_*_, _/_, _≤_};
-ghost use lib.ListN.{length};
 ghost use Rattle.io.specs.Counts.{Counts};
 use libc::STDERR_FILENO;
 use libc::STDOUT_FILENO;
@@ -9,6 +7,8 @@ use model::numbers::ANSWER_SIZE;
 use model::numbers::ENTRY_SIZE;
 use model::numbers::LARGEST_JOURNAL;
 use model::numbers::LARGEST_SITE;
+use print::Printed;
+use print::numbers::LINE_SIZE;
 
 // A byte more than the largest file that is worked through: a larger one fills its buffer, and is turned back by its length.
 const SITE_ROOM: usize = LARGEST_SITE + 1;
@@ -18,7 +18,7 @@ const JOURNAL_ROOM: usize = LARGEST_JOURNAL + 1;
 // An answer and a line for each entry.
 const ANSWERS_ROOM: usize = JOURNAL_ROOM / ENTRY_SIZE * ANSWER_SIZE;
 
-const TEXT_ROOM: usize = JOURNAL_ROOM / ENTRY_SIZE * 33;
+const TEXT_ROOM: usize = JOURNAL_ROOM / ENTRY_SIZE * LINE_SIZE;
 
 // What was read of a file: how many bytes, and whether they are all of it, or all that there is room for.
 struct Reading {
@@ -78,15 +78,13 @@ fn read_file(i: usize, bytes: &mut [u8]) -> Reading
     reading
 }
 
-// Prints the journal of these bytes, in the first bytes of the other buffers.
-fn print_bytes(site: &[u8], journal: &[u8], state: &mut [u8], answers: &mut [u8], text: &mut [u8])
-    requires { ⌜ (length (now site) ≤ length (now state)) × (length (now journal) / 24 * 16 ≤ length (now answers)) ⌝ }
-    requires { ⌜ (length (now journal) / 24 * 33 ≤ length (now text)) × (3 ≤ length (now text)) ⌝ }
-{
-    let n = site.len();
-    let k = journal.len() / ENTRY_SIZE * ANSWER_SIZE;
-    let r = print::print_journal(site, journal, &mut state[..n], &mut answers[..k], text);
-    if !io::write_all(STDOUT_FILENO, &text[..r]) {
+// Prints the journal of these bytes. State, answers and text are lent to work in; those of main have room for every journal that it reads.
+fn print_bytes(site: &[u8], journal: &[u8], state: &mut [u8], answers: &mut [u8], text: &mut [u8]) {
+    let Printed::Written(length) = print::print_journal(site, journal, state, answers, text) else {
+        io::write_all(STDERR_FILENO, b"print_journal: no room for the text\n");
+        return;
+    };
+    if !io::write_all(STDOUT_FILENO, &text[..length]) {
         os::fail(b"standard output");
     }
 }
@@ -111,11 +109,12 @@ fn main() {
     let mut text = [0u8; TEXT_ROOM];
     let n = site_file.count;
     let m = journal_file.count;
+    let k = m / ENTRY_SIZE * ANSWER_SIZE;
     print_bytes(
         &site[..n],
         &journal[..m],
-        &mut state,
-        &mut answers,
+        &mut state[..n],
+        &mut answers[..k],
         &mut text,
     );
 }

@@ -1,56 +1,64 @@
-use Prim.Native.Nat.{_≤_}
-use native.Mathlib.Nat.{le-trans}
+-- With room the run's text is written, and the laws of `Text.antt` join it to what is returned; without room nothing is done.
 use native.Mathlib.Omega.{arith}
-use mathlib.Core.Path.{_≡_, sym, ap, _∙_}
-use mathlib.Core.Bool.{true, false}
+use mathlib.Core.Path.{sym, _∙_}
 use borrow.Author.Needs.{needs}
+use borrow.Author.Tests.{not-true, not-false}
 use denote.Ref.{now}
-use lib.ListN.{length}
-use Rattle.model.specs.Calls.{isWorked}
-use Rattle.model.specs.Print.{answersText, decimalLine, printJournal}
-use Rattle.print.proofs.Buffers.{number-short, line-short, at-head}
+use Rattle.print.specs.Print.{printInto}
+use Rattle.print.proofs.Text.{number-short, number-fits, lines-fit, answers-printed, number-printed}
 use Rattle.print.proofs.print_journal.Statement.{statement}
 use Rattle.print.proofs.print_journal.Tie as tie
 
 returns : tie.Need-returns
-unfolding printJournal
-returns c =
-    let start = c .before .before .before .before .before .before .before .before .before .before .before .before .before .before .before .before .before .before .before in
-    let a = start .args in
-    let run = c .before .before .before .before .before .before .before .before .before .before .before .run-from-fresh in
-    let w = c .before .before .write-answers in
-    let answers = run .last .1 .1 .1 .0 in
-    let h : isWorked (run .result) ≡ true = sym (c .before .before .before .before .before .before .is-worked .ensures) ∙ c .before .before .before .before .before .if1 .taken in
-    let e : answersText answers ≡ printJournal (now (a .site)) (now (a .journal)) = rw (← run .ensures .0, h) (ap answersText (run .ensures .1 h)) in
-    let f : w .result ≤ length (now (a .text)) = omega (arith, start .pre .0 .1, start .pre .1 .0, run .kept .1 .1 .1 .0, w .ensures .1) in
-    let p = at-head (w .result) _ (now (a .text)) (w .last .1 .0) f (w .kept .1 .0) (w .ensures .0) in
-    (p .0, p .1 ∙ e)
+unfolding printInto
+returns c = rw (sym (c .before .has-room .ensures) ∙ not-true _ (c .if1 .taken))
 
-write-decimal-line-requires : tie.Need-write-decimal-line-requires
-write-decimal-line-requires c κs = omega (arith, c .number-of .ensures, number-short (c .before .before .before .before .before .before .before .before .run-from-fresh .result))
+write-answers-requires : tie.Need-write-answers-requires
+write-answers-requires c κs =
+    let a = c .before .before .before .before .before .before .before .before .before .before .before .before .before .before .before .before .before .before .before .args in
+    let run = c .before .before .before .before .before .before .before .before .run-into in
+    let h = sym (c .before .before .before .before .before .before .before .before .before .before .before .before .has-room .ensures) ∙ not-false _ (c .before .before .before .before .before .before .before .before .before .before .before .if1 .left) in
+    let w = sym (c .before .before .before .is-worked .ensures) ∙ c .before .before .if2 .taken in
+    omega (arith, lines-fit (now (a .site)) (now (a .journal)) (now (a .state)) (now (a .answers)) (now (a .text)) h (run .result) (run .ensures .0) w)
 
 returns-2 : tie.Need-returns-2
-unfolding printJournal
 returns-2 c =
-    let start = c .before .before .before .before .before .before .before .before .before .before .before .before .before .before .before .before .before .before .before in
-    let a = start .args in
-    let run = c .before .before .before .before .before .before .before .before .before .before .before .run-from-fresh in
+    let write = c .before .before .write-answers in
+    let a = c .before .before .before .before .before .before .before .before .before .before .before .before .before .before .before .before .before .before .before .before .before .before .args in
+    let run = c .before .before .before .before .before .before .before .before .before .before .before .run-into in
+    let h = sym (c .before .before .before .before .before .before .before .before .before .before .before .before .before .before .before .has-room .ensures) ∙ not-false _ (c .before .before .before .before .before .before .before .before .before .before .before .before .before .before .if1 .left) in
+    let w = sym (c .before .before .before .before .before .before .is-worked .ensures) ∙ c .before .before .before .before .before .if2 .taken in
+    answers-printed (now (a .site)) (now (a .journal)) (now (a .state)) (now (a .answers)) (now (a .text)) h (run .result) (run .ensures .0) (write .result) _ _ _
+    (run .ensures .1) (run .ensures .2) w (write .ensures .0) (write .ensures .1)
+
+write-decimal-line-requires : tie.Need-write-decimal-line-requires
+write-decimal-line-requires c κs =
+    let a = c .before .before .before .before .before .before .before .before .before .before .before .before .before .before .before .before .before .before .before .args in
+    let h = sym (c .before .before .before .before .before .before .before .before .before .before .before .before .has-room .ensures) ∙ not-false _ (c .before .before .before .before .before .before .before .before .before .before .before .if1 .left) in
+    omega (arith, number-fits (now (a .journal)) (now (a .text)) h, c .number-of .ensures, number-short (c .before .before .before .before .before .before .before .before .run-into .result))
+
+returns-3 : tie.Need-returns-3
+returns-3 c =
     let number = c .before .before .before .number-of in
-    let w = c .before .before .write-decimal-line in
-    let h : isWorked (run .result) ≡ false = sym (c .before .before .before .before .before .before .is-worked .ensures) ∙ c .before .before .before .before .before .if1 .left in
-    let e : decimalLine (number .result) ≡ printJournal (now (a .site)) (now (a .journal)) = rw (← run .ensures .0, h) (ap decimalLine (number .ensures)) in
-    let f : w .result ≤ length (now (a .text)) = rw (w .ensures .1) (le-trans (line-short _) (start .pre .1 .1)) in
-    let p = at-head (w .result) _ (now (a .text)) (w .last .0) f (w .kept .0) (w .ensures .0) in
-    (p .0, p .1 ∙ e)
+    let write = c .before .before .write-decimal-line in
+    let a = c .before .before .before .before .before .before .before .before .before .before .before .before .before .before .before .before .before .before .before .before .before .before .args in
+    let run = c .before .before .before .before .before .before .before .before .before .before .before .run-into in
+    let h = sym (c .before .before .before .before .before .before .before .before .before .before .before .before .before .before .before .has-room .ensures) ∙ not-false _ (c .before .before .before .before .before .before .before .before .before .before .before .before .before .before .if1 .left) in
+    let w = sym (c .before .before .before .before .before .before .is-worked .ensures) ∙ c .before .before .before .before .before .if2 .left in
+    number-printed (now (a .site)) (now (a .journal)) (now (a .state)) (now (a .answers)) (now (a .text)) h (run .result) (run .ensures .0) (write .result) _ _ _
+    (run .ensures .1) (run .ensures .2) (number .result) (number .ensures) w (write .ensures .0) (write .ensures .1)
 
 pub print-journal-spec : {M : Type 1} → statement M
 print-journal-spec =
     tie.close
     (tie.spec
-    (λ c κs. search needs) (λ c κs. search needs) (λ c κs. search needs) (λ c. search needs) (λ c. search needs)
-    (λ c. search needs)
+    (λ c κs. search needs) (λ c. search needs)
     returns
+    (λ c κs. search needs) (λ c κs. search needs)
+    write-answers-requires
+    (λ c. search needs) (λ c. search needs) (λ c. search needs)
+    returns-2
     (λ c κs. search needs)
     write-decimal-line-requires
     (λ c. search needs) (λ c. search needs) (λ c. search needs)
-    returns-2)
+    returns-3)

@@ -1,10 +1,15 @@
+-- The parts of state and answers that are lent are as long as they say, since no more was read than there is room for.
 use native.Mathlib.Omega.{arith}
+use lib.ListN.{length-take}
 use borrow.Author.Needs.{needs}
 use Rattle.print_journal.proofs.main.Statement.{statement}
 use Rattle.print_journal.proofs.main.Tie as tie
 
-print-bytes-requires : tie.Need-print-bytes-requires
-print-bytes-requires c κs = omega arith
+slice-aggregate-print-bytes-3 : tie.Need-slice-aggregate-print-bytes-3
+slice-aggregate-print-bytes-3 c = simp length-take (omega arith)
+
+slice-aggregate-print-bytes-4 : tie.Need-slice-aggregate-print-bytes-4
+slice-aggregate-print-bytes-4 c = simp length-take (omega arith)
 
 pub main-spec : {M : Type 1} → statement M
 main-spec =
@@ -13,6 +18,8 @@ main-spec =
     (λ c κs. search needs) (λ c. search needs) (λ c κs. search needs) (λ c. search needs) (λ c. search needs)
     (λ c κs. search needs) (λ c. search needs) (λ c. search needs) (λ c κs. search needs) (λ c. search needs)
     (λ c. search needs) (λ c. search needs) (λ c. search needs) (λ c. search needs) (λ c. search needs)
-    (λ c. search needs) (λ c. search needs)
-    print-bytes-requires
-    (λ c. search needs))
+    (λ c. search needs)
+    slice-aggregate-print-bytes-3
+    (λ c. search needs)
+    slice-aggregate-print-bytes-4
+    (λ c. search needs) (λ c κs. search needs) (λ c. search needs))

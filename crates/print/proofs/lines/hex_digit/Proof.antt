@@ -1,3 +1,4 @@
+-- In each arm the test of `hexDigit` is known.
 use borrow.Author.Needs.{needs}
 use borrow.Author.Tests.{lt-ltb, le-ltb}
 use Rattle.model.specs.Print.{hexDigit}

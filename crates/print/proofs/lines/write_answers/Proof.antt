@@ -1,7 +1,7 @@
 -- The lines of the first k answers are written.
-use Prim.Native.Nat.{ℕ, _-_, _/_, _≤_, _<_}
+use Prim.Native.Nat.{ℕ, _*_, _-_, _/_, _≤_, _<_}
 use native.Mathlib.Omega.{arith}
-use mathlib.Core.Path.{_≡_, refl}
+use mathlib.Core.Path.{_≡_, refl, sym}
 use mathlib.Core.List.{List, []}
 use borrow.Author.Needs.{needs}
 use denote.Ref.{now}
@@ -9,7 +9,7 @@ use lib.ListN.{length}
 use Rattle.octets.proofs.Groups.{length-groups}
 use Rattle.model.specs.Lists.{answersIn}
 use Rattle.model.specs.Print.{hexLine, answersText}
-use Rattle.octets.proofs.Written.{written, written-start, written-step, written-end}
+use Rattle.octets.proofs.Written.{written, written-start, written-step, written-end, head-length}
 use Rattle.print.proofs.lines.write_answers.Statement.{statement}
 use Rattle.print.proofs.lines.write_answers.Tie as tie
 
@@ -46,7 +46,8 @@ returns c =
     let l = c .before .loop in
     let a = c .before .before .before .before .args in
     let answers = now (a .answers) in
-    (written-end hexLine 33 (answersIn answers) (now (a .text)) (l .k) (length answers / 16) (l .text) (omega arith) (length-answers answers) (l .inv .2), refl)
+    let e = written-end hexLine 33 (answersIn answers) (now (a .text)) (l .k) (length answers / 16) (l .text) (omega arith) (length-answers answers) (l .inv .2) in
+    (e, sym (head-length (length answers / 16 * 33) (answersText answers) (now (a .text)) (omega arith) (rw e at (l .inv .1))))
 
 pub write-answers-spec : {M : Type 1} → statement M
 write-answers-spec =

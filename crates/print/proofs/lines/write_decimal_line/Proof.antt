@@ -1,3 +1,4 @@
+-- The stores are the head of the text; in each arm the test of `decimalLine` is known.
 use native.Mathlib.Omega.{arith}
 use mathlib.Core.Path.{refl, _∙_}
 use mathlib.Core.List.{[], _∷_}

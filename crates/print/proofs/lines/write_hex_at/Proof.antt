@@ -1,3 +1,4 @@
+-- The part that is lent comes back as the digits of the byte.
 use borrow.Author.Needs.{needs}
 use denote.Ref.{now}
 use Rattle.model.specs.Print.{hexByte}

@@ -1,3 +1,4 @@
+-- The two stores are the whole part.
 use native.Mathlib.Omega.{arith}
 use mathlib.Core.Path.{_∙_}
 use mathlib.Core.List.{[], _∷_}

@@ -1,3 +1,4 @@
+-- The part that is lent comes back as the line of the k-th answer.
 use Prim.Native.Nat.{_/_}
 use mathlib.Core.Path.{ap, _∙_}
 use mathlib.Core.List.{[]}
