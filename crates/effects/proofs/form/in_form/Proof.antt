@@ -1,7 +1,0 @@
-use Rattle.model.specs.Entry.{inForm}
-use Rattle.effects.proofs.form.in_form.Statement.{statement}
-use Rattle.effects.proofs.form.in_form.Tie as tie
-
-pub in-form-spec : {M : Type 1} → statement M
-unfolding inForm
-in-form-spec = tie.close (tie.spec (λ c κs. tt) (λ c. rw (c .before .before .before .arguments-fit .ensures)))

@@ -1,8 +1,0 @@
-use mathlib.Core.Path.{refl}
-use Rattle.model.specs.Entry.{noAmount}
-use Rattle.effects.proofs.form.no_amount.Statement.{statement}
-use Rattle.effects.proofs.form.no_amount.Tie as tie
-
-pub no-amount-spec : {M : Type 1} → statement M
-unfolding noAmount
-no-amount-spec = tie.close (tie.spec (λ c. refl))

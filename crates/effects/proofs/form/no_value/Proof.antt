@@ -1,7 +1,0 @@
-use Rattle.model.specs.Entry.{noValue}
-use Rattle.effects.proofs.form.no_value.Statement.{statement}
-use Rattle.effects.proofs.form.no_value.Tie as tie
-
-pub no-value-spec : {M : Type 1} → statement M
-unfolding noValue
-no-value-spec = tie.close (tie.spec (λ c κs. tt) (λ c. rw (c .is-zero .ensures)))
