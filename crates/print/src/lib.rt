@@ -44,8 +44,8 @@ pub fn print_journal(
         return Printed::NoRoom;
     }
     let returned = run_into(site, journal, state, answers);
-    if panel::is_worked(returned) {
+    if calls::is_worked(returned) {
         return Printed::Written(lines::write_answers(answers, text));
     }
-    Printed::Written(lines::write_decimal_line(text, panel::number_of(returned)))
+    Printed::Written(lines::write_decimal_line(text, calls::number_of(returned)))
 }

@@ -70,7 +70,7 @@ pub fn find_factor_in<'a>(view: SiteView<'a>, factor: Presented) -> &'a [u8]
 pub fn fresh_in<'a>(view: SiteView<'a>, state: &mut [u8]) -> Returned
     ensures { λ r. ⌜ (r ≡ freshState (now (view .entry .bytes)) (now (state .entry)) .returned) × (now (state .exit) ≡ freshState (now (view .entry .bytes)) (now (state .entry)) .state) ⌝ }
 {
-    panel::fresh_state(view.bytes, state)
+    calls::make_fresh(view.bytes, state)
 }
 
 pub fn run_in<'a>(
@@ -81,7 +81,7 @@ pub fn run_in<'a>(
 ) -> Returned
     ensures { λ r. ⌜ (r ≡ runJournal (now (view .entry .bytes)) (now (state .entry)) (now (journal .entry)) (now (answers .entry)) .returned) × (now (state .exit) ≡ runJournal (now (view .entry .bytes)) (now (state .entry)) (now (journal .entry)) (now (answers .entry)) .state) × (now (answers .exit) ≡ runJournal (now (view .entry .bytes)) (now (state .entry)) (now (journal .entry)) (now (answers .entry)) .answers) ⌝ }
 {
-    panel::run_journal(view.bytes, state, journal, answers)
+    calls::work_through(view.bytes, state, journal, answers)
 }
 
 // The fresh state, over a view of the site.

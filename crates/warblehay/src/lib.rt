@@ -16,14 +16,14 @@ pub const NOWHERE: usize = 18446744073709551615;
 pub extern "C" fn warblehay_check_site(site: &[u8]) -> u32
     ensures { λ r. ⌜ r ≡ number (checkSite (now (site .entry))) ⌝ }
 {
-    panel::number_of(panel::check_site(site))
+    calls::number_of(calls::check_site(site))
 }
 
 #[no_mangle]
 pub extern "C" fn warblehay_fresh_state(site: &[u8], state: &mut [u8]) -> u32
     ensures { λ r. ⌜ (r ≡ number (freshState (now (site .entry)) (now (state .entry)) .returned)) × (now (state .exit) ≡ freshState (now (site .entry)) (now (state .entry)) .state) ⌝ }
 {
-    panel::number_of(view::fresh_state(site, state))
+    calls::number_of(view::fresh_state(site, state))
 }
 
 #[no_mangle]
@@ -35,7 +35,7 @@ pub extern "C" fn warblehay_run_journal(
 ) -> u32
     ensures { λ r. ⌜ (r ≡ number (runJournal (now (site .entry)) (now (state .entry)) (now (journal .entry)) (now (answers .entry)) .returned)) × (now (state .exit) ≡ runJournal (now (site .entry)) (now (state .entry)) (now (journal .entry)) (now (answers .entry)) .state) × (now (answers .exit) ≡ runJournal (now (site .entry)) (now (state .entry)) (now (journal .entry)) (now (answers .entry)) .answers) ⌝ }
 {
-    panel::number_of(view::run_journal(site, state, journal, answers))
+    calls::number_of(view::run_journal(site, state, journal, answers))
 }
 
 fn place_number(place: Place) -> usize

@@ -1,4 +1,4 @@
--- `view::fresh_in` meets its contract: a walk of its MIR, by hand. The view is taken apart (`View.antt`'s `over`), and `panel::fresh_state` is called on its bytes and the state; all that the proof knows of it is that it meets its contract.
+-- `view::fresh_in` meets its contract: a walk of its MIR, by hand. The view is taken apart (`View.antt`'s `over`), and `calls::make_fresh` is called on its bytes and the state; all that the proof knows of it is that it meets its contract.
 -- Each parameter goes to the callee at its own lifetime, share and ghost name: what the callee says of the last list of the state, under that name, is what `fresh_in` says of it.
 use mathlib.Core.Path.{refl}
 use mathlib.Core.List.{List, [], _∷_}
@@ -27,10 +27,10 @@ use Rattle.model.proofs.Returned.Laws as S′
 use Rattle.view.proofs.Meets.{calls-on}
 use Rattle.view.proofs.View.{low, over}
 use Rattle.view.proofs.SiteView.Laws as T′
-use Rattle.panel.proofs.fresh_state as callee
-use Rattle.panel.proofs.fresh_state.Symbol as callee-def
-use Rattle.panel.proofs.fresh_state.Symbol.{name as #panel·fresh-state}
-use Rattle.panel.proofs.fresh_state.Met as callee-thm
+use Rattle.calls.proofs.make_fresh as callee
+use Rattle.calls.proofs.make_fresh.Symbol as callee-def
+use Rattle.calls.proofs.make_fresh.Symbol.{name as #calls·make-fresh}
+use Rattle.calls.proofs.make_fresh.Met as callee-thm
 use Rattle.view.proofs.fresh_in.Key.{name as #view·fresh-in}
 use Rattle.view.proofs.fresh_in as fresh-in
 use Rattle.view.proofs.fresh_in.Statement as stated
@@ -47,7 +47,7 @@ module _ {M : Type 1} (𝓤 : URA M) (H : Heap 𝓤) (A : Atoms 𝓤) (W : Given
   abbrev Callee : Contract 𝓤
   Callee = tripleOf 𝓤 H A callee.signature (callee.spec 𝓤 H A mem run)
 
-  fresh-in-meets : Triple 𝓤 (𝓣 .C #panel·fresh-state) Callee → Meets 𝓤 H A fresh-in.signature (WpFn 𝓤 H (𝓣 .C) (𝓣 .Λ) code.function) (fresh-in.spec 𝓤 H A mem run)
+  fresh-in-meets : Triple 𝓤 (𝓣 .C #calls·make-fresh) Callee → Meets 𝓤 H A fresh-in.signature (WpFn 𝓤 H (𝓣 .C) (𝓣 .Λ) code.function) (fresh-in.spec 𝓤 H A mem run)
   fresh-in-meets known = over 𝓤 H A W 1 ss r (callee.spec 𝓤 H A mem run) (λ κs a. fresh-in.spec 𝓤 H A mem run κs a .ensures)
       -- what the callee ensures of the bytes is what `fresh_in` ensures of the view
       (λ κs a g x. id⊢ 𝓤 _)
@@ -71,4 +71,4 @@ fresh-in-spec 𝓤 H 𝓜 𝓖 𝓡 =
     entered 𝓤 H (tripleOf 𝓤 H (𝓖 .A) fresh-in.signature (fresh-in.spec 𝓤 H (𝓖 .A) (𝓜 .mem) (𝓡 .run)))
     (tables 𝓤 H 𝓜 𝓡 code.env .C) (tables 𝓤 H 𝓜 𝓡 code.env .Λ) #view·fresh-in code.function (code.unfolded 𝓤 H 𝓜 𝓡)
     (fresh-in-meets 𝓤 H (𝓖 .A) (givenOf 𝓤 H 𝓜 𝓖) (𝓜 .mem) (𝓡 .run) (tablesOf 𝓤 H 𝓜 (tables 𝓤 H 𝓜 𝓡 code.env))
-    (cited 𝓤 H (tripleOf 𝓤 H (𝓖 .A) callee.signature (callee.spec 𝓤 H (𝓖 .A) (𝓜 .mem) (𝓡 .run))) 𝓜 𝓡 code.env #panel·fresh-state callee-def.routine code.calls-panel·fresh-state (callee-thm.met 𝓤 H 𝓜 𝓖 𝓡)))
+    (cited 𝓤 H (tripleOf 𝓤 H (𝓖 .A) callee.signature (callee.spec 𝓤 H (𝓖 .A) (𝓜 .mem) (𝓡 .run))) 𝓜 𝓡 code.env #calls·make-fresh callee-def.routine code.calls-calls·make-fresh (callee-thm.met 𝓤 H 𝓜 𝓖 𝓡)))

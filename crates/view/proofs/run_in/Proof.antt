@@ -1,4 +1,4 @@
--- `view::run_in` meets its contract: a walk of its MIR, by hand. The view is taken apart (`View.antt`'s `over`), and `panel::run_journal` is called on its bytes and the other parameters; all that the proof knows of it is that it meets its contract.
+-- `view::run_in` meets its contract: a walk of its MIR, by hand. The view is taken apart (`View.antt`'s `over`), and `calls::work_through` is called on its bytes and the other parameters; all that the proof knows of it is that it meets its contract.
 -- Each parameter goes to the callee at its own lifetime, share and ghost name: what the callee says of the last lists of the state and of the answers, under their names, is what `run_in` says of them.
 use mathlib.Core.Path.{refl}
 use mathlib.Core.List.{List, [], _∷_}
@@ -27,10 +27,10 @@ use Rattle.model.proofs.Returned.Laws as S′
 use Rattle.view.proofs.Meets.{calls-on}
 use Rattle.view.proofs.View.{low, over}
 use Rattle.view.proofs.SiteView.Laws as T′
-use Rattle.panel.proofs.run_journal as callee
-use Rattle.panel.proofs.run_journal.Symbol as callee-def
-use Rattle.panel.proofs.run_journal.Symbol.{name as #panel·run-journal}
-use Rattle.panel.proofs.run_journal.Met as callee-thm
+use Rattle.calls.proofs.work_through as callee
+use Rattle.calls.proofs.work_through.Symbol as callee-def
+use Rattle.calls.proofs.work_through.Symbol.{name as #calls·work-through}
+use Rattle.calls.proofs.work_through.Met as callee-thm
 use Rattle.view.proofs.run_in.Key.{name as #view·run-in}
 use Rattle.view.proofs.run_in as run-in
 use Rattle.view.proofs.run_in.Statement as stated
@@ -47,7 +47,7 @@ module _ {M : Type 1} (𝓤 : URA M) (H : Heap 𝓤) (A : Atoms 𝓤) (W : Given
   abbrev Callee : Contract 𝓤
   Callee = tripleOf 𝓤 H A callee.signature (callee.spec 𝓤 H A mem run)
 
-  run-in-meets : Triple 𝓤 (𝓣 .C #panel·run-journal) Callee → Meets 𝓤 H A run-in.signature (WpFn 𝓤 H (𝓣 .C) (𝓣 .Λ) code.function) (run-in.spec 𝓤 H A mem run)
+  run-in-meets : Triple 𝓤 (𝓣 .C #calls·work-through) Callee → Meets 𝓤 H A run-in.signature (WpFn 𝓤 H (𝓣 .C) (𝓣 .Λ) code.function) (run-in.spec 𝓤 H A mem run)
   run-in-meets known = over 𝓤 H A W 3 ss r (callee.spec 𝓤 H A mem run) (λ κs a. run-in.spec 𝓤 H A mem run κs a .ensures)
       -- what the callee ensures of the bytes is what `run_in` ensures of the view
       (λ κs a g x. id⊢ 𝓤 _)
@@ -73,4 +73,4 @@ run-in-spec 𝓤 H 𝓜 𝓖 𝓡 =
     entered 𝓤 H (tripleOf 𝓤 H (𝓖 .A) run-in.signature (run-in.spec 𝓤 H (𝓖 .A) (𝓜 .mem) (𝓡 .run)))
     (tables 𝓤 H 𝓜 𝓡 code.env .C) (tables 𝓤 H 𝓜 𝓡 code.env .Λ) #view·run-in code.function (code.unfolded 𝓤 H 𝓜 𝓡)
     (run-in-meets 𝓤 H (𝓖 .A) (givenOf 𝓤 H 𝓜 𝓖) (𝓜 .mem) (𝓡 .run) (tablesOf 𝓤 H 𝓜 (tables 𝓤 H 𝓜 𝓡 code.env))
-    (cited 𝓤 H (tripleOf 𝓤 H (𝓖 .A) callee.signature (callee.spec 𝓤 H (𝓖 .A) (𝓜 .mem) (𝓡 .run))) 𝓜 𝓡 code.env #panel·run-journal callee-def.routine code.calls-panel·run-journal (callee-thm.met 𝓤 H 𝓜 𝓖 𝓡)))
+    (cited 𝓤 H (tripleOf 𝓤 H (𝓖 .A) callee.signature (callee.spec 𝓤 H (𝓖 .A) (𝓜 .mem) (𝓡 .run))) 𝓜 𝓡 code.env #calls·work-through callee-def.routine code.calls-calls·work-through (callee-thm.met 𝓤 H 𝓜 𝓖 𝓡)))

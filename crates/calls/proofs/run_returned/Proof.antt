@@ -2,9 +2,9 @@ use mathlib.Core.Path.{sym, _∙_}
 use denote.Ref.{now}
 use borrow.Author.Tests.{eq-eqb, ne-eqb, not-true, not-false}
 use borrow.Author.Needs.{needs}
-use Rattle.panel.proofs.Laws.{lengths, said, as-fresh, not-well-formed, not-entries, not-answers, worked}
-use Rattle.panel.proofs.run_returned.Statement.{statement}
-use Rattle.panel.proofs.run_returned.Tie as tie
+use Rattle.calls.proofs.Laws.{lengths, said, as-fresh, not-well-formed, not-entries, not-answers, worked}
+use Rattle.calls.proofs.run_returned.Statement.{statement}
+use Rattle.calls.proofs.run_returned.Tie as tie
 
 returns : tie.Need-returns
 returns c =

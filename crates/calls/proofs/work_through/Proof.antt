@@ -2,10 +2,10 @@ use mathlib.Core.Path.{sym, _∙_, ap}
 use denote.Ref.{now}
 use borrow.Author.Tests.{not-true, not-false}
 use Rattle.model.specs.Calls.{isWorked, runJournal}
-use Rattle.panel.proofs.Laws.{run-lengths, said}
+use Rattle.calls.proofs.Laws.{run-lengths, said}
 use borrow.Author.Needs.{needs}
-use Rattle.panel.proofs.run_journal.Statement.{statement}
-use Rattle.panel.proofs.run_journal.Tie as tie
+use Rattle.calls.proofs.work_through.Statement.{statement}
+use Rattle.calls.proofs.work_through.Tie as tie
 
 returns : tie.Need-returns
 unfolding runJournal
@@ -28,8 +28,8 @@ returns-2 c =
     let h = said (r .ensures .0) (c .before .before .before .before .before .before .before .before .before .is-worked .ensures) ∙ not-false _ (c .before .before .before .before .before .before .before .before .if1 .left) in
     (r .ensures .0, rw h (c .before .before .before .before .run .ensures .0), rw h (c .before .before .before .before .run .ensures .1))
 
-pub run-journal-spec : {M : Type 1} → statement M
-run-journal-spec =
+pub work-through-spec : {M : Type 1} → statement M
+work-through-spec =
     tie.close
     (tie.spec
     (λ c. search needs) (λ c κs. search needs) (λ c κs. search needs) (λ c. search needs) (λ c. search needs)

@@ -1,7 +1,7 @@
 use Rattle.model.specs.Calls.{isWorked}
 use borrow.Author.Needs.{needs}
-use Rattle.panel.proofs.is_worked.Statement.{statement}
-use Rattle.panel.proofs.is_worked.Tie as tie
+use Rattle.calls.proofs.is_worked.Statement.{statement}
+use Rattle.calls.proofs.is_worked.Tie as tie
 
 returns : tie.Need-returns
 unfolding isWorked

@@ -2,9 +2,9 @@ use mathlib.Core.Path.{sym, _∙_}
 use borrow.Author.Tests.{eq-eqb, ne-eqb, not-true, not-false}
 use Rattle.model.specs.Calls.{freshReturned}
 use borrow.Author.Needs.{needs}
-use Rattle.panel.proofs.Laws.{said}
-use Rattle.panel.proofs.fresh_returned.Statement.{statement}
-use Rattle.panel.proofs.fresh_returned.Tie as tie
+use Rattle.calls.proofs.Laws.{said}
+use Rattle.calls.proofs.fresh_returned.Statement.{statement}
+use Rattle.calls.proofs.fresh_returned.Tie as tie
 
 returns : tie.Need-returns
 unfolding freshReturned

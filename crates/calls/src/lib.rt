@@ -57,7 +57,7 @@ fn fresh_returned(site: &[u8], index: &mut [u16], state: &[u8]) -> Returned
 }
 
 // The fresh state: refusals 1 to 5; turned back, the state stays as it was.
-pub fn fresh_state(site: &[u8], state: &mut [u8]) -> Returned
+pub fn make_fresh(site: &[u8], state: &mut [u8]) -> Returned
     ensures { λ r. ⌜ (r ≡ freshState (now (site .entry)) (now (state .entry)) .returned) × (now (state .exit) ≡ freshState (now (site .entry)) (now (state .entry)) .state) ⌝ }
 {
     let mut index = [UNBUILT; INDEX_SIZE];
@@ -96,7 +96,7 @@ fn run_returned(
 }
 
 // The journal run: refusals 1 to 6, 10, 11; turned back, state and answers stay as they were. A bad entry is refused in its own answer.
-pub fn run_journal(site: &[u8], state: &mut [u8], journal: &[u8], answers: &mut [u8]) -> Returned
+pub fn work_through(site: &[u8], state: &mut [u8], journal: &[u8], answers: &mut [u8]) -> Returned
     ensures { λ r. ⌜ (r ≡ runJournal (now (site .entry)) (now (state .entry)) (now (journal .entry)) (now (answers .entry)) .returned) × (now (state .exit) ≡ runJournal (now (site .entry)) (now (state .entry)) (now (journal .entry)) (now (answers .entry)) .state) × (now (answers .exit) ≡ runJournal (now (site .entry)) (now (state .entry)) (now (journal .entry)) (now (answers .entry)) .answers) ⌝ }
 {
     let mut index = [UNBUILT; INDEX_SIZE];

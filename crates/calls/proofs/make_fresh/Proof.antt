@@ -2,10 +2,10 @@ use mathlib.Core.Path.{sym, _∙_, ap}
 use denote.Ref.{now}
 use borrow.Author.Tests.{not-true, not-false}
 use Rattle.model.specs.Calls.{isWorked, freshState}
-use Rattle.panel.proofs.Laws.{lengths, said}
+use Rattle.calls.proofs.Laws.{lengths, said}
 use borrow.Author.Needs.{needs}
-use Rattle.panel.proofs.fresh_state.Statement.{statement}
-use Rattle.panel.proofs.fresh_state.Tie as tie
+use Rattle.calls.proofs.make_fresh.Statement.{statement}
+use Rattle.calls.proofs.make_fresh.Tie as tie
 
 returns : tie.Need-returns
 unfolding freshState
@@ -24,8 +24,8 @@ returns-2 c =
     let r = c .before .before .before .before .before .before .before .fresh-returned in
     (r .ensures .0, rw (said (r .ensures .0) (c .before .before .before .before .before .is-worked .ensures) ∙ not-false _ (c .before .before .before .before .if1 .left)) (c .before .before .write-fresh-state .ensures))
 
-pub fresh-state-spec : {M : Type 1} → statement M
-fresh-state-spec =
+pub make-fresh-spec : {M : Type 1} → statement M
+make-fresh-spec =
     tie.close
     (tie.spec
     (λ c. search needs) (λ c κs. search needs) (λ c κs. search needs) (λ c. search needs)
