@@ -1,9 +1,9 @@
 // The calls, on slices. Every call checks the site anew, and nothing is written before all checks have passed.
 ghost use mathlib.Core.Path.{_≡_};
-ghost use Rattle.model.specs.Calls.{number, isWorked, checkSite, freshReturned, freshState, runReturned, runJournal};
-ghost use mathlib.Core.Bool.{true};
 ghost use lib.ListN.{length};
-ghost use Rattle.index.specs.Index.{index-size, Indexed};
+ghost use Rattle.model.specs.Calls.{number, isWorked, checkSite, freshReturned, freshResult, freshState, checkState, runReturned, runResult, runJournal};
+ghost use Rattle.index.specs.Index.{index-size};
+ghost use Rattle.calls.specs.Checked.{Checked};
 use index::INDEX_SIZE;
 use index::UNBUILT;
 use model::Returned;
@@ -44,7 +44,7 @@ pub fn check_site(site: &[u8]) -> Returned
 
 fn fresh_returned(site: &[u8], index: &mut [u16], state: &[u8]) -> Returned
     requires { ⌜ length (now index) ≡ index-size ⌝ }
-    ensures { λ r. ⌜ (r ≡ freshReturned (now (site .entry)) (now (state .entry))) × (isWorked r ≡ true → Indexed (now (site .entry)) (now (index .exit))) ⌝ }
+    ensures { λ r. ⌜ Checked r (freshReturned (now (site .entry)) (now (state .entry))) (now (site .entry)) (now (index .exit)) ⌝ }
 {
     let r = site::check::check_site(site, index);
     if !is_worked(r) {
@@ -58,7 +58,7 @@ fn fresh_returned(site: &[u8], index: &mut [u16], state: &[u8]) -> Returned
 
 // The fresh state: refusals 1 to 5; turned back, the state stays as it was.
 pub fn make_fresh(site: &[u8], state: &mut [u8]) -> Returned
-    ensures { λ r. ⌜ (r ≡ freshState (now (site .entry)) (now (state .entry)) .returned) × (now (state .exit) ≡ freshState (now (site .entry)) (now (state .entry)) .state) ⌝ }
+    ensures { λ r. ⌜ freshResult r (now (state .exit)) ≡ freshState (now (site .entry)) (now (state .entry)) ⌝ }
 {
     let mut index = [UNBUILT; INDEX_SIZE];
     let r = fresh_returned(site, &mut index, state);
@@ -69,6 +69,28 @@ pub fn make_fresh(site: &[u8], state: &mut [u8]) -> Returned
     r
 }
 
+fn state_returned(site: &[u8], index: &mut [u16], state: &[u8]) -> Returned
+    requires { ⌜ length (now index) ≡ index-size ⌝ }
+    ensures { λ r. ⌜ Checked r (checkState (now (site .entry)) (now (state .entry))) (now (site .entry)) (now (index .exit)) ⌝ }
+{
+    let r = fresh_returned(site, index, state);
+    if !is_worked(r) {
+        return r;
+    }
+    if !state::well::is_well_formed(site, index, state) {
+        return Returned::StateForm;
+    }
+    Returned::WorkedThrough
+}
+
+// The state check: refusals 1 to 6.
+pub fn check_state(site: &[u8], state: &[u8]) -> Returned
+    ensures { λ r. ⌜ r ≡ checkState (now (site .entry)) (now (state .entry)) ⌝ }
+{
+    let mut index = [UNBUILT; INDEX_SIZE];
+    state_returned(site, &mut index, state)
+}
+
 fn run_returned(
     site: &[u8],
     index: &mut [u16],
@@ -77,14 +99,11 @@ fn run_returned(
     answers: &[u8],
 ) -> Returned
     requires { ⌜ length (now index) ≡ index-size ⌝ }
-    ensures { λ r. ⌜ (r ≡ runReturned (now (site .entry)) (now (state .entry)) (now (journal .entry)) (now (answers .entry))) × (isWorked r ≡ true → Indexed (now (site .entry)) (now (index .exit))) ⌝ }
+    ensures { λ r. ⌜ Checked r (runReturned (now (site .entry)) (now (state .entry)) (now (journal .entry)) (now (answers .entry))) (now (site .entry)) (now (index .exit)) ⌝ }
 {
-    let r = fresh_returned(site, index, state);
+    let r = state_returned(site, index, state);
     if !is_worked(r) {
         return r;
-    }
-    if !state::well::is_well_formed(site, index, state) {
-        return Returned::StateForm;
     }
     if (journal.len() % ENTRY_SIZE != 0) | (LARGEST_JOURNAL < journal.len()) {
         return Returned::JournalLength;
@@ -97,7 +116,7 @@ fn run_returned(
 
 // The journal run: refusals 1 to 6, 10, 11; turned back, state and answers stay as they were. A bad entry is refused in its own answer.
 pub fn work_through(site: &[u8], state: &mut [u8], journal: &[u8], answers: &mut [u8]) -> Returned
-    ensures { λ r. ⌜ (r ≡ runJournal (now (site .entry)) (now (state .entry)) (now (journal .entry)) (now (answers .entry)) .returned) × (now (state .exit) ≡ runJournal (now (site .entry)) (now (state .entry)) (now (journal .entry)) (now (answers .entry)) .state) × (now (answers .exit) ≡ runJournal (now (site .entry)) (now (state .entry)) (now (journal .entry)) (now (answers .entry)) .answers) ⌝ }
+    ensures { λ r. ⌜ runResult r (now (state .exit)) (now (answers .exit)) ≡ runJournal (now (site .entry)) (now (state .entry)) (now (journal .entry)) (now (answers .entry)) ⌝ }
 {
     let mut index = [UNBUILT; INDEX_SIZE];
     let r = run_returned(site, &mut index, state, journal, answers);

@@ -3,7 +3,7 @@
 --     holds            the bytes and the number of records make a view
 --     apart            a view is taken apart for a call: its bytes go to the callee in its place, beside the tokens and the parameters after it
 --     over             a function that ends in a call on the view's bytes and the parameters after the view: it meets its contract where what the callee ensures of the bytes gives what it ensures of the view. The walk begins with what the callee asks
---     finds τ f        the MIR of `find_in` and `find_factor_in`: f is called on the view's bytes and on a parameter of the type τ.        found       such a function meets its contract
+--     passes m ρ τ f   the MIR of a function that calls f on the view's bytes and on one parameter of the type τ, and returns what f does, of the type ρ.        passed      such a function meets its contract
 -- No contract says anything of a view at exit, so nothing is kept of it.
 use mathlib.Core.Path.{_≡_, refl}
 use Prim.Native.Nat.{ℕ, suc, _<_, _^_}
@@ -23,13 +23,13 @@ use types.Kit.{Given, ‵, raw, _⊛_, given, _$_, _∵_, !, qed, by, move, drop
 use types.Part.{whole, sub, look-in}
 use types.Run.{look, init, forget, stop, fld, from, load, of-opd, and-then, no-more, assigns, land, returns, enter, alloc1, alloc0, params1, pass1, pass0, free1, free0}
 use sound.WpLaws.{fmOf}
-use denote.RattleType.{RattleType, Denots, flat, owns}
-use denote.Laws.{Is, Ises, Are, Spells, Tells, Tellss, valss}
+use denote.RattleType.{Denots, flat, owns}
+use denote.Laws.{Is, Ises, Are, Spells, Tells, Tellss, Typed, Lawful, valss}
 use denote.Plain.{uint-makes}
 use denote.Builtin.{SliceRefOf, u8, usize}
 use denote.Ref.{RefT, NamedLft}
-use denote.Signature.{Slot, Signature, plain, typesAt, namedLft}
-use denote.Slice.{sliceTy, sliceVal, ShrSlice, shr-slice-lawful}
+use denote.Signature.{Slot, Signature, plain, typeAt, typesAt, namedLft}
+use denote.Slice.{sliceTy, sliceVal, ShrSlice}
 use denote.Steps.{nothing, owned}
 use denote.Struct.Laws as LL
 use denote.Struct.Rest.{all-own, own-open, own-shut}
@@ -114,33 +114,35 @@ module _ {M : Type 1} (𝓤 : URA M) (H : Heap 𝓤) (A : Atoms 𝓤) (W : Given
       (k κs (y .0 .1) d a (y .1) (laid 𝓤 H A W (namedLft (suc m) 0 tt κs) d _ (are .0)) (are .1) (tripleOf 𝓤 H A (OnView m ss r) (ofView 𝓤 m ss r c E) .post y)
       (λ v. gives 𝓤 H (W .laws) (Back 𝓤 H A (OnView m ss r) (y .0) v) (c κs (d .bytes, a) .ensures (y .1)) (E κs (d, a) (y .1)) (says κs (d, a) (y .1)))))
 
-abbrev slice : Lifetime → Ty
+-- the MIR type of a slice
+abbrev pub slice : Lifetime → Ty
 slice ℓ = sliceTy (tyRef ℓ imm (tyInt w8))
 
-abbrev pub finds : Ty → Name → Fn
-finds τ f = record {
-  lifetimes = 1;
+abbrev pub passes : ℕ → Ty → Ty → Name → Fn
+passes m ρ τ f = record {
+  lifetimes = suc m;
   outlives = [];
   params = 2;
-  locals = local (slice (named 0)) valueLocal ∷ local (T′.mir (named 0)) valueLocal ∷ local τ valueLocal ∷ local (slice erased) valueLocal ∷ [];
+  locals = local ρ valueLocal ∷ local (T′.mir (named 0)) valueLocal ∷ local τ valueLocal ∷ local (slice erased) valueLocal ∷ [];
   body = seq (assign (place 3 []) (rvOpd (copy (place 1 (field 0 ∷ []))))) (seq (call f (copy (place 3 []) ∷ copy (place 2 []) ∷ []) (place 0 [])) return);
 }
 
-module _ {M : Type 1} (𝓤 : URA M) (H : Heap 𝓤) (A : Atoms 𝓤) (W : Given 𝓤 H A) (X : RattleType) (val : X .Denot → Val) (tell : Tells X (Is X) (λ x. val x ∷ [])) (τ : Ty) (fits : (x : X .Denot) → Is X x (val x ∷ []) → Fits τ (val x)) where
-  abbrev ss : List (Slot 1)
-  ss = plain (λ _. X) ∷ []
+-- The parameter is of the slot x and has the machine value that `val` says; the result is of the slot r.
+module _ {M : Type 1} (𝓤 : URA M) (H : Heap 𝓤) (A : Atoms 𝓤) (W : Given 𝓤 H A) (m : ℕ) (x r : Slot (suc m))
+    (val : (κs : Lfts (suc m)) → typeAt x κs .Denot → Val) (tell : (κs : Lfts (suc m)) → Tells (typeAt x κs) (Is (typeAt x κs)) (λ z. val κs z ∷ []))
+    (τ : Ty) (fits : (κs : Lfts (suc m)) (z : typeAt x κs .Denot) → Is (typeAt x κs) z (val κs z ∷ []) → Fits τ (val κs z))
+    (ρ : Ty) (law : (κs : Lfts (suc m)) → Lawful 𝓤 H A (typeAt r κs)) (fits-result : (κs : Lfts (suc m)) (v : Val) → Typed (typeAt r κs .mir) (v ∷ []) → Fits ρ v) where
+  abbrev sp : (κs : Lfts (suc m)) → Spells (typesAt (x ∷ []) κs)
+  sp κs = ((λ z. val κs z ∷ []), tt)
 
-  abbrev r : Slot 1
-  r = SliceRefOf (0 ∷ []) tt (plain (λ _. u8)) (λ _. tt)
-
-  pub found : (c : Spec 𝓤 (OnBytes 0 ss r)) (E : Ensures 𝓤 0 ss r c) → Says 𝓤 0 ss r c E → (𝓣 : Tables 𝓤 H) (f : Name) → Triple 𝓤 (𝓣 .C f) (tripleOf 𝓤 H A (OnBytes 0 ss r) c) → Meets 𝓤 H A (OnView 0 ss r) (WpFn 𝓤 H (𝓣 .C) (𝓣 .Λ) (finds τ f)) (ofView 𝓤 0 ss r c E)
-  found c E says 𝓣 f known = over 𝓤 H A W 0 ss r c E says (λ _. ((λ x. val x ∷ []), tt)) (λ _. (tell, tt)) (WpFn 𝓤 H (𝓣 .C) (𝓣 .Λ) (finds τ f)) (λ κs qs d a g wt are Q hands.
-      let y : tripleOf 𝓤 H A (OnBytes 0 ss r) c .Ghost = to 𝓤 H A W 0 ss r c E says (λ _. ((λ x. val x ∷ []), tt)) κs qs d a g in
-      qed W (raw (tripleOf 𝓤 H A (OnBytes 0 ss r) c .pre y) ∷ []) ∵ enter ! (𝓣 .C) (𝓣 .Λ) (finds τ f) (T′.lowered d ∷ val (a .0) ∷ []) _ $
-      alloc1 ! (λ l₀. alloc1 ! (λ l₁. alloc1 ! (λ l₂. alloc1 ! (λ l₃. alloc0 ! $ params1 ! $ pass1 ! (init ! 4 refl wt) $ pass1 ! (init ! 2 refl (fits (a .0) (are .0))) $ pass0 ! $
+  pub passed : (c : Spec 𝓤 (OnBytes m (x ∷ []) r)) (E : Ensures 𝓤 m (x ∷ []) r c) → Says 𝓤 m (x ∷ []) r c E → (𝓣 : Tables 𝓤 H) (f : Name) → Triple 𝓤 (𝓣 .C f) (tripleOf 𝓤 H A (OnBytes m (x ∷ []) r) c) → Meets 𝓤 H A (OnView m (x ∷ []) r) (WpFn 𝓤 H (𝓣 .C) (𝓣 .Λ) (passes m ρ τ f)) (ofView 𝓤 m (x ∷ []) r c E)
+  passed c E says 𝓣 f known = over 𝓤 H A W m (x ∷ []) r c E says sp (λ κs. (tell κs, tt)) (WpFn 𝓤 H (𝓣 .C) (𝓣 .Λ) (passes m ρ τ f)) (λ κs qs d a g wt are Q hands.
+      let y : tripleOf 𝓤 H A (OnBytes m (x ∷ []) r) c .Ghost = to 𝓤 H A W m (x ∷ []) r c E says sp κs qs d a g in
+      qed W (raw (tripleOf 𝓤 H A (OnBytes m (x ∷ []) r) c .pre y) ∷ []) ∵ enter ! (𝓣 .C) (𝓣 .Λ) (passes m ρ τ f) (T′.lowered d ∷ val κs (a .0) ∷ []) _ $
+      alloc1 ! (λ l₀. alloc1 ! (λ l₁. alloc1 ! (λ l₂. alloc1 ! (λ l₃. alloc0 ! $ params1 ! $ pass1 ! (init ! 4 refl wt) $ pass1 ! (init ! 2 refl (fits κs (a .0) (are .0))) $ pass0 ! $
       -- [_3; …; _2; …; _1; …; room for _0; …; what the callee asks]
       assigns ! (of-opd ! (load ! (from ! (fld ! refl (stop !))) (look-in ! 4 (sub ! 0 refl (whole !))))) (from ! (stop !)) (init ! 0 refl (tt, wt .1 .0)) $
-      move ! (8 ∷ []) $ calls-on ! (fmOf 𝓤 H (W .laws) 𝓣) (OnBytes 0 ss r) c known y (shr-slice-lawful 𝓤 H A W (named 0) (κs .0) u8)
+      move ! (8 ∷ []) $ calls-on ! (fmOf 𝓤 H (W .laws) 𝓣) (OnBytes m (x ∷ []) r) c known y (law κs)
       (and-then ! (load ! (from ! (stop !)) (look ! 1 refl)) (and-then ! (load ! (from ! (stop !)) (look ! 3 refl)) (no-more !))) (λ u ok.
-      land ! (from ! (stop !)) (init ! 7 refl (ok .0)) $ returns ! (look ! 7 refl) $ forget ! 1 refl $ forget ! 3 refl $ forget ! 5 refl $ forget ! 7 refl $
+      land ! (from ! (stop !)) (init ! 7 refl (fits-result κs u ok)) $ returns ! (look ! 7 refl) $ forget ! 1 refl $ forget ! 3 refl $ forget ! 5 refl $ forget ! 7 refl $
       move ! (7 ∷ 8 ∷ []) $ free1 ! $ move ! (5 ∷ 6 ∷ []) $ free1 ! $ move ! (3 ∷ 4 ∷ []) $ free1 ! $ move ! (1 ∷ 2 ∷ []) $ free1 ! $ free0 ! $ by ! (hands u)))))))

@@ -3,7 +3,7 @@
 ghost use mathlib.Core.Path.{_≡_};
 ghost use lib.ListN.{length};
 ghost use Rattle.model.specs.Site.{records, lookup, findIn};
-ghost use Rattle.model.specs.Calls.{freshState, runJournal};
+ghost use Rattle.model.specs.Calls.{checkSite, freshResult, freshState, checkState, runResult, runJournal};
 ghost use Rattle.site.specs.Factor.{fits};
 ghost use Rattle.view.specs.Object.{kindOf, instanceOf};
 use model::Returned;
@@ -67,8 +67,21 @@ pub fn find_factor_in<'a>(view: SiteView<'a>, factor: Presented) -> &'a [u8]
     site::lookup::find_factor(view.bytes, factor)
 }
 
+// The calls over a view.
+pub fn check_site_in<'a>(view: SiteView<'a>) -> Returned
+    ensures { λ r. ⌜ r ≡ checkSite (now (view .entry .bytes)) ⌝ }
+{
+    calls::check_site(view.bytes)
+}
+
+pub fn check_state_in<'a>(view: SiteView<'a>, state: &[u8]) -> Returned
+    ensures { λ r. ⌜ r ≡ checkState (now (view .entry .bytes)) (now (state .entry)) ⌝ }
+{
+    calls::check_state(view.bytes, state)
+}
+
 pub fn fresh_in<'a>(view: SiteView<'a>, state: &mut [u8]) -> Returned
-    ensures { λ r. ⌜ (r ≡ freshState (now (view .entry .bytes)) (now (state .entry)) .returned) × (now (state .exit) ≡ freshState (now (view .entry .bytes)) (now (state .entry)) .state) ⌝ }
+    ensures { λ r. ⌜ freshResult r (now (state .exit)) ≡ freshState (now (view .entry .bytes)) (now (state .entry)) ⌝ }
 {
     calls::make_fresh(view.bytes, state)
 }
@@ -79,21 +92,32 @@ pub fn run_in<'a>(
     journal: &[u8],
     answers: &mut [u8],
 ) -> Returned
-    ensures { λ r. ⌜ (r ≡ runJournal (now (view .entry .bytes)) (now (state .entry)) (now (journal .entry)) (now (answers .entry)) .returned) × (now (state .exit) ≡ runJournal (now (view .entry .bytes)) (now (state .entry)) (now (journal .entry)) (now (answers .entry)) .state) × (now (answers .exit) ≡ runJournal (now (view .entry .bytes)) (now (state .entry)) (now (journal .entry)) (now (answers .entry)) .answers) ⌝ }
+    ensures { λ r. ⌜ runResult r (now (state .exit)) (now (answers .exit)) ≡ runJournal (now (view .entry .bytes)) (now (state .entry)) (now (journal .entry)) (now (answers .entry)) ⌝ }
 {
     calls::work_through(view.bytes, state, journal, answers)
 }
 
-// The fresh state, over a view of the site.
+// The upper calls: each makes a view of the site and works on it.
+pub fn check_site(site: &[u8]) -> Returned
+    ensures { λ r. ⌜ r ≡ checkSite (now (site .entry)) ⌝ }
+{
+    check_site_in(view_of(site))
+}
+
+pub fn check_state(site: &[u8], state: &[u8]) -> Returned
+    ensures { λ r. ⌜ r ≡ checkState (now (site .entry)) (now (state .entry)) ⌝ }
+{
+    check_state_in(view_of(site), state)
+}
+
 pub fn fresh_state(site: &[u8], state: &mut [u8]) -> Returned
-    ensures { λ r. ⌜ (r ≡ freshState (now (site .entry)) (now (state .entry)) .returned) × (now (state .exit) ≡ freshState (now (site .entry)) (now (state .entry)) .state) ⌝ }
+    ensures { λ r. ⌜ freshResult r (now (state .exit)) ≡ freshState (now (site .entry)) (now (state .entry)) ⌝ }
 {
     fresh_in(view_of(site), state)
 }
 
-// The journal run, over a view of the site.
 pub fn run_journal(site: &[u8], state: &mut [u8], journal: &[u8], answers: &mut [u8]) -> Returned
-    ensures { λ r. ⌜ (r ≡ runJournal (now (site .entry)) (now (state .entry)) (now (journal .entry)) (now (answers .entry)) .returned) × (now (state .exit) ≡ runJournal (now (site .entry)) (now (state .entry)) (now (journal .entry)) (now (answers .entry)) .state) × (now (answers .exit) ≡ runJournal (now (site .entry)) (now (state .entry)) (now (journal .entry)) (now (answers .entry)) .answers) ⌝ }
+    ensures { λ r. ⌜ runResult r (now (state .exit)) (now (answers .exit)) ≡ runJournal (now (site .entry)) (now (state .entry)) (now (journal .entry)) (now (answers .entry)) ⌝ }
 {
     run_in(view_of(site), state, journal, answers)
 }

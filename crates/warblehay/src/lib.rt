@@ -1,8 +1,9 @@
 // The calls for C, each with the number of its outcome, and the lookups, with that of a place. A slice passes as a pointer and a length.
 ghost use mathlib.Core.Path.{_≡_};
 ghost use Rattle.model.specs.Numbers.{access-zone, access-point, access-credential};
-ghost use Rattle.model.specs.Calls.{number, checkSite, freshState, runJournal};
+ghost use Rattle.model.specs.Calls.{number, checkSite, freshState, checkState, runJournal};
 ghost use Rattle.site.specs.Place.{placeOf};
+ghost use Rattle.warblehay.specs.Numbered.{numberedFresh, numberedRun};
 ghost use Rattle.warblehay.specs.PlaceNumber.{placeNumber};
 use site::CredentialId;
 use site::Place;
@@ -16,12 +17,19 @@ pub const NOWHERE: usize = 18446744073709551615;
 pub extern "C" fn warblehay_check_site(site: &[u8]) -> u32
     ensures { λ r. ⌜ r ≡ number (checkSite (now (site .entry))) ⌝ }
 {
-    calls::number_of(calls::check_site(site))
+    calls::number_of(view::check_site(site))
+}
+
+#[no_mangle]
+pub extern "C" fn warblehay_check_state(site: &[u8], state: &[u8]) -> u32
+    ensures { λ r. ⌜ r ≡ number (checkState (now (site .entry)) (now (state .entry))) ⌝ }
+{
+    calls::number_of(view::check_state(site, state))
 }
 
 #[no_mangle]
 pub extern "C" fn warblehay_fresh_state(site: &[u8], state: &mut [u8]) -> u32
-    ensures { λ r. ⌜ (r ≡ number (freshState (now (site .entry)) (now (state .entry)) .returned)) × (now (state .exit) ≡ freshState (now (site .entry)) (now (state .entry)) .state) ⌝ }
+    ensures { λ r. ⌜ (r, now (state .exit)) ≡ numberedFresh (freshState (now (site .entry)) (now (state .entry))) ⌝ }
 {
     calls::number_of(view::fresh_state(site, state))
 }
@@ -33,7 +41,7 @@ pub extern "C" fn warblehay_run_journal(
     journal: &[u8],
     answers: &mut [u8],
 ) -> u32
-    ensures { λ r. ⌜ (r ≡ number (runJournal (now (site .entry)) (now (state .entry)) (now (journal .entry)) (now (answers .entry)) .returned)) × (now (state .exit) ≡ runJournal (now (site .entry)) (now (state .entry)) (now (journal .entry)) (now (answers .entry)) .state) × (now (answers .exit) ≡ runJournal (now (site .entry)) (now (state .entry)) (now (journal .entry)) (now (answers .entry)) .answers) ⌝ }
+    ensures { λ r. ⌜ (r, now (state .exit), now (answers .exit)) ≡ numberedRun (runJournal (now (site .entry)) (now (state .entry)) (now (journal .entry)) (now (answers .entry))) ⌝ }
 {
     calls::number_of(view::run_journal(site, state, journal, answers))
 }

@@ -1,3 +1,4 @@
+-- The number that is compared is that of the outcome.
 use Rattle.model.specs.Calls.{isWorked}
 use borrow.Author.Needs.{needs}
 use Rattle.calls.proofs.is_worked.Statement.{statement}

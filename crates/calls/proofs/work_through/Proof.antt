@@ -1,8 +1,9 @@
-use mathlib.Core.Path.{sym, _∙_, ap}
+-- Turned back, state and answers are as they were; worked through, they are what the run leaves.
+use mathlib.Core.Path.{sym, _∙_}
 use denote.Ref.{now}
 use borrow.Author.Tests.{not-true, not-false}
-use Rattle.model.specs.Calls.{isWorked, runJournal}
-use Rattle.calls.proofs.Laws.{run-lengths, said}
+use Rattle.model.specs.Calls.{runJournal}
+use Rattle.calls.proofs.Laws.{run-lengths}
 use borrow.Author.Needs.{needs}
 use Rattle.calls.proofs.work_through.Statement.{statement}
 use Rattle.calls.proofs.work_through.Tie as tie
@@ -11,22 +12,22 @@ returns : tie.Need-returns
 unfolding runJournal
 returns c =
     let r = c .before .before .before .run-returned in
-    let h = said (r .ensures .0) (c .before .is-worked .ensures) ∙ not-true _ (c .if1 .taken) in
-    (r .ensures .0, rw h, rw h)
+    rw (← r .ensures .0, sym (c .before .is-worked .ensures) ∙ not-true _ (c .if1 .taken))
 
 run-requires : tie.Need-run-requires
 run-requires c κs =
     let a = c .before .before .before .before .before .before .before .before .before .before .before .before .before .before .args in
     let r = c .before .before .before .before .before .before .run-returned in
-    let w = not-false _ (c .before .before .before .if1 .left) in
-    (r .ensures .1 (sym (c .before .before .before .before .is-worked .ensures) ∙ w), run-lengths (now (a .site)) (now (a .state)) (now (a .journal)) (now (a .answers)) (said (r .ensures .0) (c .before .before .before .before .is-worked .ensures) ∙ w))
+    let h = sym (c .before .before .before .before .is-worked .ensures) ∙ not-false _ (c .before .before .before .if1 .left) in
+    (r .ensures .1 h, run-lengths (now (a .site)) (now (a .state)) (now (a .journal)) (now (a .answers)) (rw (r .ensures .0) at h))
 
 returns-2 : tie.Need-returns-2
 unfolding runJournal
 returns-2 c =
-    let r = c .before .before .before .before .before .before .before .before .before .before .before .run-returned in
-    let h = said (r .ensures .0) (c .before .before .before .before .before .before .before .before .before .is-worked .ensures) ∙ not-false _ (c .before .before .before .before .before .before .before .before .if1 .left) in
-    (r .ensures .0, rw h (c .before .before .before .before .run .ensures .0), rw h (c .before .before .before .before .run .ensures .1))
+    let b = c .before .before .before .before .before .before .before .before in
+    let r = b .before .before .before .run-returned in
+    let run = c .before .before .before .before .run in
+    rw (← r .ensures .0, sym (b .before .is-worked .ensures) ∙ not-false _ (b .if1 .left), run .ensures .0, run .ensures .1)
 
 pub work-through-spec : {M : Type 1} → statement M
 work-through-spec =

@@ -1,10 +1,15 @@
--- `view::find_factor_in` meets its contract: its MIR is `View.antt`'s `finds` at `find_factor`, and it says what `find_factor` says. All that the proof knows of that is that it meets its contract.
+-- `view::find_factor_in` meets its contract: its MIR is `View.antt`'s `passes` at `find_factor`, and it says what `find_factor` says. All that the proof knows of that is that it meets its contract.
+use mathlib.Core.List.{[], _∷_}
+use mir.Syntax.{named}
 use base.Logic.{id⊢}
 use contract.Running.{givenOf, tables, tablesOf}
+use denote.Builtin.{SliceRefOf, u8}
+use denote.Signature.{plain}
+use denote.Slice.{shr-slice-lawful}
 use denote.Struct.Laws as LL
 use denote.Triple.Spec.{tripleOf}
 use denote.Triple.Table.{entered, cited}
-use Rattle.view.proofs.View.{found}
+use Rattle.view.proofs.View.{slice, passed}
 use Rattle.site.proofs.Presented as P
 use Rattle.site.proofs.Presented.Laws as P′
 use Rattle.site.proofs.lookup.find_factor as callee
@@ -21,7 +26,9 @@ unfolding code.routine tablesOf
 find-factor-in-spec 𝓤 H 𝓜 𝓖 𝓡 =
     entered 𝓤 H (tripleOf 𝓤 H (𝓖 .A) find-factor-in.signature (find-factor-in.spec 𝓤 H (𝓖 .A) (𝓜 .mem) (𝓡 .run)))
     (tables 𝓤 H 𝓜 𝓡 code.env .C) (tables 𝓤 H 𝓜 𝓡 code.env .Λ) #view·find-factor-in code.function (code.unfolded 𝓤 H 𝓜 𝓡)
-    (found 𝓤 H (𝓖 .A) (givenOf 𝓤 H 𝓜 𝓖) P.the-row (LL.val P.the-type P′.the-laws) (LL.tells P.the-type P′.the-laws) P′.mir (λ p is. LL.lawful P.the-type P′.the-laws 𝓤 H (𝓖 .A) (givenOf 𝓤 H 𝓜 𝓖) .typed p _ is .0)
+    (passed 𝓤 H (𝓖 .A) (givenOf 𝓤 H 𝓜 𝓖) 0 (plain (λ _. P.the-row)) (SliceRefOf (0 ∷ []) tt (plain (λ _. u8)) (λ _. tt))
+    (λ _. LL.val P.the-type P′.the-laws) (λ _. LL.tells P.the-type P′.the-laws) P′.mir (λ κs p is. LL.lawful P.the-type P′.the-laws 𝓤 H (𝓖 .A) (givenOf 𝓤 H 𝓜 𝓖) .typed p _ is .0)
+    (slice (named 0)) (λ κs. shr-slice-lawful 𝓤 H (𝓖 .A) (givenOf 𝓤 H 𝓜 𝓖) (named 0) (κs .0) u8) (λ κs v ok. ok .0)
     (callee.spec 𝓤 H (𝓖 .A) (𝓜 .mem) (𝓡 .run)) (λ κs a. find-factor-in.spec 𝓤 H (𝓖 .A) (𝓜 .mem) (𝓡 .run) κs a .ensures)
     -- what the callee ensures of the bytes is what `find_factor_in` ensures of the view
     (λ κs a g x. id⊢ 𝓤 _)
