@@ -40,6 +40,16 @@ pub fn fresh_state(case: &mut Case) -> u8 {
     )
 }
 
+/// The state check, beside the reference's run of an empty journal, which is turned back by the
+/// same numbers. Panics where they disagree.
+pub fn check_state(case: &mut Case) -> u8 {
+    agreed(
+        |case| proved::check_state(&case.site, &case.state),
+        |case| journal::run_journal(&case.site, &mut case.state, &[], &mut []),
+        case,
+    )
+}
+
 /// The journal run through both engines, left in the case. Panics where they disagree.
 pub fn run_journal(case: &mut Case) -> u8 {
     agreed(proved_run, reference_run, case)

@@ -17,6 +17,10 @@ pub fn fresh_state(site: &[u8], state: &mut [u8]) -> u8 {
     number(linked::fresh_state(site, state))
 }
 
+pub fn check_state(site: &[u8], state: &[u8]) -> u8 {
+    number(linked::check_state(site, state))
+}
+
 pub fn run_journal(site: &[u8], state: &mut [u8], journal: &[u8], answers: &mut [u8]) -> u8 {
     number(linked::run_journal(site, state, journal, answers))
 }

@@ -20,7 +20,7 @@
 enum { ROOM = 1 << 17, KEPT_BYTES = 64, KEPT = 0xC5 };
 enum { HEAP, BEFORE, AFTER };
 enum { SITE, STATE, JOURNAL, ANSWERS, BUFFERS };
-enum { CHECK, FRESH, RUN, CALLS };
+enum { CHECK_SITE, FRESH, CHECK_STATE, RUN, CALLS };
 
 /* What the case puts into a buffer. */
 struct bytes {
@@ -209,11 +209,11 @@ static void count_returned(int call, uint32_t returned)
     add_to_sum(&byte, 1);
 }
 
-static uint32_t try_check(void)
+static uint32_t try_check_site(void)
 {
     lend(SITE);
     uint32_t returned = warblehay_check_site(lent[SITE].at, lent[SITE].length);
-    count_returned(CHECK, returned);
+    count_returned(CHECK_SITE, returned);
     EXPECT(returned <= WARBLEHAY_SITE_MISSING);
     EXPECT(is_as_it_was(SITE));
     take_back(SITE);
@@ -263,10 +263,24 @@ static uint32_t try_fresh(uint32_t expected)
     return returned;
 }
 
-static uint32_t run_lent(size_t journal_length, size_t answers_length)
+static uint32_t check_lent_state(void)
 {
-    return warblehay_run_journal(lent[SITE].at, lent[SITE].length, lent[STATE].at, lent[STATE].length, lent[JOURNAL].at, journal_length,
-                                 lent[ANSWERS].at, answers_length);
+    return warblehay_check_state(lent[SITE].at, lent[SITE].length, lent[STATE].at, lent[STATE].length);
+}
+
+static uint32_t try_check_state(uint32_t expected)
+{
+    lend(SITE);
+    lend(STATE);
+    uint32_t returned = check_lent_state();
+    count_returned(CHECK_STATE, returned);
+    if (expected == WARBLEHAY_WORKED_THROUGH && returned == WARBLEHAY_STATE_FORM)
+        expected = WARBLEHAY_STATE_FORM;
+    EXPECT(returned == expected);
+    EXPECT(is_as_it_was(SITE) && is_as_it_was(STATE));
+    take_back(SITE);
+    take_back(STATE);
+    return returned;
 }
 
 static void try_run(uint32_t expected)
@@ -274,18 +288,17 @@ static void try_run(uint32_t expected)
     size_t journal = damaged[JOURNAL].length, answers = damaged[ANSWERS].length;
     for (int i = 0; i < BUFFERS; i++)
         lend(i);
-    uint32_t returned = run_lent(journal, answers);
+    uint32_t returned = warblehay_run_journal(lent[SITE].at, lent[SITE].length, lent[STATE].at, lent[STATE].length, lent[JOURNAL].at,
+                                              journal, lent[ANSWERS].at, answers);
     count_returned(RUN, returned);
-    if (expected == WARBLEHAY_WORKED_THROUGH && returned == WARBLEHAY_STATE_FORM)
-        expected = WARBLEHAY_STATE_FORM;
-    else if (expected == WARBLEHAY_WORKED_THROUGH && (journal % WARBLEHAY_ENTRY_SIZE != 0 || journal > WARBLEHAY_LARGEST_JOURNAL))
+    if (expected == WARBLEHAY_WORKED_THROUGH && (journal % WARBLEHAY_ENTRY_SIZE != 0 || journal > WARBLEHAY_LARGEST_JOURNAL))
         expected = WARBLEHAY_JOURNAL_LENGTH;
     else if (expected == WARBLEHAY_WORKED_THROUGH && answers != journal / WARBLEHAY_ENTRY_SIZE * WARBLEHAY_ANSWER_SIZE)
         expected = WARBLEHAY_ANSWERS_LENGTH;
     EXPECT(returned == expected);
     EXPECT(is_as_it_was(SITE) && is_as_it_was(JOURNAL));
     if (returned == WARBLEHAY_WORKED_THROUGH)
-        EXPECT(run_lent(0, 0) == WARBLEHAY_WORKED_THROUGH); /* The state is well formed again. */
+        EXPECT(check_lent_state() == WARBLEHAY_WORKED_THROUGH); /* The state is well formed again. */
     else
         EXPECT(is_as_it_was(STATE) && is_as_it_was(ANSWERS));
     for (int i = 0; i < BUFFERS; i++)
@@ -301,7 +314,7 @@ static void try_case(void)
     for (uint64_t damages = below(4); damages > 0; damages--)
         damage();
     try_places();
-    try_run(try_fresh(try_check()));
+    try_run(try_check_state(try_fresh(try_check_site())));
 }
 
 static void read_example(int i, const char *name)
@@ -361,8 +374,9 @@ int main(int count, char **arguments)
         between_guards[i] = map_between_guards();
     for (case_number = 0; case_number < cases; case_number++)
         try_case();
-    report(CHECK, "check_site", WARBLEHAY_SITE_MISSING);
+    report(CHECK_SITE, "check_site", WARBLEHAY_SITE_MISSING);
     report(FRESH, "fresh_state", WARBLEHAY_STATE_LENGTH);
+    report(CHECK_STATE, "check_state", WARBLEHAY_STATE_FORM);
     report(RUN, "run_journal", WARBLEHAY_ANSWERS_LENGTH);
     printf("sum %016llX\n", (unsigned long long)sum);
     return 0;

@@ -1,5 +1,5 @@
-/* stack SITE JOURNAL: the bytes of stack that the site check, the fresh state and the run of the journal use, a line each, with the function
- * that makes the call. Each runs on a stack of its own, painted before. */
+/* stack SITE JOURNAL: the bytes of stack that the site check, the fresh state, its check and the run of the journal use, a line each, with the
+ * function that makes the call. Each runs on a stack of its own, painted before. */
 #define _XOPEN_SOURCE 700
 #include "warblehay.h"
 
@@ -24,7 +24,7 @@ static size_t read_file(const char *name, uint8_t *buffer, size_t room)
     return length;
 }
 
-static void check(void)
+static void check_site(void)
 {
     returned = warblehay_check_site(site, site_length);
 }
@@ -32,6 +32,11 @@ static void check(void)
 static void fresh(void)
 {
     returned = warblehay_fresh_state(site, site_length, state, site_length);
+}
+
+static void check_state(void)
+{
+    returned = warblehay_check_state(site, site_length, state, site_length);
 }
 
 static void run(void)
@@ -66,7 +71,7 @@ int main(int count, char **arguments)
     if (site_length == 0 || journal_length == 0)
         return 1;
 
-    void (*const calls[])(void) = {check, fresh, run};
+    void (*const calls[])(void) = {check_site, fresh, check_state, run};
     for (size_t index = 0; index < sizeof calls / sizeof *calls; index++) {
         size_t used = used_by(calls[index]);
         if (returned != WARBLEHAY_WORKED_THROUGH)

@@ -14,6 +14,13 @@ extern "C" {
         state_length: usize,
     ) -> u32;
 
+    fn warblehay_check_state(
+        site: *const u8,
+        site_length: usize,
+        state: *const u8,
+        state_length: usize,
+    ) -> u32;
+
     fn warblehay_run_journal(
         site: *const u8,
         site_length: usize,
@@ -34,6 +41,11 @@ pub fn check_site(site: &[u8]) -> u32 {
 pub fn fresh_state(site: &[u8], state: &mut [u8]) -> u32 {
     // SAFETY: the call asks for nothing but live slices, the lent one apart from the other.
     unsafe { warblehay_fresh_state(site.as_ptr(), site.len(), state.as_mut_ptr(), state.len()) }
+}
+
+pub fn check_state(site: &[u8], state: &[u8]) -> u32 {
+    // SAFETY: the call asks for nothing but live slices.
+    unsafe { warblehay_check_state(site.as_ptr(), site.len(), state.as_ptr(), state.len()) }
 }
 
 pub fn run_journal(site: &[u8], state: &mut [u8], journal: &[u8], answers: &mut [u8]) -> u32 {

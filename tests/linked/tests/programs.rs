@@ -142,7 +142,7 @@ fn damaged_buffers() {
         library::assert_succeeds(on_example(program).args([mode, SEED, CASES]))
     };
     let reported = run(&plain, "heap");
-    assert_eq!(reported.lines().count(), 4);
+    assert_eq!(reported.lines().count(), 5);
     for mode in ["heap", "before", "after"] {
         assert_eq!(run(&sanitised, mode), reported, "{mode}");
     }
@@ -168,7 +168,7 @@ fn the_stack_stays_small() {
             .lines()
             .filter_map(|line| line.parse().ok())
             .collect();
-        assert_eq!(used.len(), 3, "a number for each call");
+        assert_eq!(used.len(), 4, "a number for each call");
         assert!(
             used.iter().all(|used| (1..STACK).contains(used)),
             "{used:?} bytes"
@@ -204,6 +204,7 @@ fn no_other_library_and_no_other_name() {
         calls,
         [
             "warblehay_check_site",
+            "warblehay_check_state",
             "warblehay_fresh_state",
             "warblehay_place_of_credential",
             "warblehay_place_of_point",
