@@ -74,16 +74,16 @@ pub fn check_site_in<'a>(view: SiteView<'a>) -> Returned
     calls::check_site(view.bytes)
 }
 
-pub fn check_state_in<'a>(view: SiteView<'a>, state: &[u8]) -> Returned
-    ensures { λ r. ⌜ r ≡ checkState (now (view .entry .bytes)) (now (state .entry)) ⌝ }
-{
-    calls::check_state(view.bytes, state)
-}
-
 pub fn fresh_in<'a>(view: SiteView<'a>, state: &mut [u8]) -> Returned
     ensures { λ r. ⌜ freshResult r (now (state .exit)) ≡ freshState (now (view .entry .bytes)) (now (state .entry)) ⌝ }
 {
     calls::make_fresh(view.bytes, state)
+}
+
+pub fn check_state_in<'a>(view: SiteView<'a>, state: &[u8]) -> Returned
+    ensures { λ r. ⌜ r ≡ checkState (now (view .entry .bytes)) (now (state .entry)) ⌝ }
+{
+    calls::check_state(view.bytes, state)
 }
 
 pub fn run_in<'a>(
@@ -104,16 +104,16 @@ pub fn check_site(site: &[u8]) -> Returned
     check_site_in(view_of(site))
 }
 
-pub fn check_state(site: &[u8], state: &[u8]) -> Returned
-    ensures { λ r. ⌜ r ≡ checkState (now (site .entry)) (now (state .entry)) ⌝ }
-{
-    check_state_in(view_of(site), state)
-}
-
 pub fn fresh_state(site: &[u8], state: &mut [u8]) -> Returned
     ensures { λ r. ⌜ freshResult r (now (state .exit)) ≡ freshState (now (site .entry)) (now (state .entry)) ⌝ }
 {
     fresh_in(view_of(site), state)
+}
+
+pub fn check_state(site: &[u8], state: &[u8]) -> Returned
+    ensures { λ r. ⌜ r ≡ checkState (now (site .entry)) (now (state .entry)) ⌝ }
+{
+    check_state_in(view_of(site), state)
 }
 
 pub fn run_journal(site: &[u8], state: &mut [u8], journal: &[u8], answers: &mut [u8]) -> Returned

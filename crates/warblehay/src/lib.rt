@@ -21,17 +21,17 @@ pub extern "C" fn warblehay_check_site(site: &[u8]) -> u32
 }
 
 #[no_mangle]
-pub extern "C" fn warblehay_check_state(site: &[u8], state: &[u8]) -> u32
-    ensures { λ r. ⌜ r ≡ number (checkState (now (site .entry)) (now (state .entry))) ⌝ }
-{
-    calls::number_of(view::check_state(site, state))
-}
-
-#[no_mangle]
 pub extern "C" fn warblehay_fresh_state(site: &[u8], state: &mut [u8]) -> u32
     ensures { λ r. ⌜ (r, now (state .exit)) ≡ numberedFresh (freshState (now (site .entry)) (now (state .entry))) ⌝ }
 {
     calls::number_of(view::fresh_state(site, state))
+}
+
+#[no_mangle]
+pub extern "C" fn warblehay_check_state(site: &[u8], state: &[u8]) -> u32
+    ensures { λ r. ⌜ r ≡ number (checkState (now (site .entry)) (now (state .entry))) ⌝ }
+{
+    calls::number_of(view::check_state(site, state))
 }
 
 #[no_mangle]
