@@ -1,3 +1,4 @@
 pub mod Walks
+pub mod Tags
 pub mod Building
 pub mod Buckets

@@ -1,5 +1,5 @@
 -- Walks over the records of a site, one by one or along the chain of a bucket: what is left from the i-th record on decides.
-use Prim.Native.Nat.{ℕ, zero, suc, _+_, _-_, _%_, _≤_, _<_}
+use Prim.Native.Nat.{ℕ, zero, suc, _+_, _-_, _/_, _%_, _≤_, _<_}
 use mathlib.Core.Path.{_≡_, refl, sym, _∙_}
 use mathlib.Core.List.{List, [], _∷_}
 use mathlib.Core.Bool.{Bool, true, false, false≢true}
@@ -12,7 +12,7 @@ use lib.Seq.{drop-cons, drop-drop, getD-drop}
 use borrow.Author.Tests.{eqb-true, eqb-false, ne-eqb, ltb-true, ltb-false, lt-ltb}
 use Rattle.model.specs.Words.{if_then_else_}
 use Rattle.model.specs.Site.{kind}
-use Rattle.index.specs.Index.{buckets, kind-classes, bucketOf, kindClass, firstFrom, nextIn, head, link, after, IndexedFrom}
+use Rattle.index.specs.Index.{buckets, kind-classes, bucketOf, tagsOf, chainFrom, chain-scale, recordOf, kindClass, firstFrom, nextIn, head, kindHead, kindLast, link, after, IndexedFrom}
 
 -- What is left from the i-th record on: that record, and what is left from the next one on; past the last, nothing.
 module _ (ss : List (List ℕ)) (i : ℕ) where
@@ -107,6 +107,39 @@ module _ (class : List ℕ → ℕ) where
         let z : i + (firstFrom class c i (drop i ss) - i) ≡ firstFrom class c i (drop i ss) = omega (arith, found c i (drop i ss) .low) in
         rw z at (rw drop-drop at (skips i (drop i ss)))
 
+-- A chain of a bucket, or what is left of it: its first record is of the bucket, and its tags are those from there on.
+pub record Chain (b : ℕ) (ss : List (List ℕ)) (chain : ℕ) : Type 0 where
+  pub here : recordOf chain < length ss → bucketOf (getD ss (recordOf chain) []) ≡ b
+  pub tagged : chain / chain-scale ≡ tagsOf b (drop (recordOf chain) ss)
+
+-- The chains of an index. The first record of each is the next of its bucket.
+module _ (k : ℕ) (ss : List (List ℕ)) (index : List ℕ) (x : IndexedFrom k ss index) where
+  module _ (b m chain : ℕ) (l : m ≤ length ss) (e : chain ≡ chainFrom b m ss) where
+    chain-record : recordOf chain ≡ nextIn bucketOf b m ss
+    chain-record = omega (arith, x .few, next-high bucketOf b m ss l)
+
+    chain-at : Chain b ss chain
+    unfolding tagsOf
+    chain-at =
+        let t : chain / chain-scale ≡ tagsOf b (drop m ss) = omega (arith, x .few, next-high bucketOf b m ss l) in
+        record { here = rw chain-record (next-here bucketOf b m ss); tagged = t ∙ rw chain-record (skip bucketOf (λ j. tagsOf b) b other m ss) }
+      where
+        other : (j : ℕ) (s : List ℕ) (ts : List (List ℕ)) → eqb (bucketOf s) b ≡ false → tagsOf b (s ∷ ts) ≡ tagsOf b ts
+        other j s ts n = rw n
+
+  pub head-record : (b : ℕ) → b < buckets → recordOf (head b index) ≡ nextIn bucketOf b k ss
+  head-record b l = chain-record b k (head b index) (x .within) (x .heads b l)
+
+  pub head-chain : (b : ℕ) → b < buckets → Chain b ss (head b index)
+  head-chain b l = chain-at b k (head b index) (x .within) (x .heads b l)
+
+  module _ (i : ℕ) (l : k ≤ i) (h : i < length ss) where
+    pub link-record : recordOf (link i index) ≡ nextIn bucketOf (bucketOf (getD ss i [])) (i + 1) ss
+    link-record = chain-record (bucketOf (getD ss i [])) (i + 1) (link i index) (omega arith) (x .links i l h)
+
+    pub link-chain : Chain (bucketOf (getD ss i [])) ss (link i index)
+    link-chain = chain-at (bucketOf (getD ss i [])) (i + 1) (link i index) (omega arith) (x .links i l h)
+
 -- A walk over the records from the k-th on that has come to i: along the chain of a bucket, or, where that is left, over the records of a kind.
 pub record Walk {A : Type 0} (f : ℕ → List (List ℕ) → A) (b k : ℕ) (w : A) (ss : List (List ℕ)) (along : Bool) (i : ℕ) : Type 0 where
   pub low : k ≤ i
@@ -123,7 +156,7 @@ module _ {A : Type 0} (f : ℕ → List (List ℕ) → A) (q : List ℕ → Bool
       sym p ∙ l
 
   -- Only records of a class pass the test: from the m-th record on, the next of the class decides.
-  onward : (class : List ℕ → ℕ) (c : ℕ) → ((s : List ℕ) → q s ≡ true → class s ≡ c) → {w : A} (m : ℕ) → f m (drop m ss) ≡ w
+  pub onward : (class : List ℕ → ℕ) (c : ℕ) → ((s : List ℕ) → q s ≡ true → class s ≡ c) → {w : A} (m : ℕ) → f m (drop m ss) ≡ w
       → f (nextIn class c m ss) (drop (nextIn class c m ss) ss) ≡ w
   onward class c has m p = sym (skip class f c (λ k s ts h. passes k s ts (misses s h)) m ss) ∙ p
     where
@@ -141,13 +174,13 @@ module _ {A : Type 0} (f : ℕ → List (List ℕ) → A) (q : List ℕ → Bool
         let n : k ≤ nextIn bucketOf b m ss = omega (arith, next-low bucketOf b m ss) in
         rw e (record { low = n; here = λ t. next-here bucketOf b m ss; left = onward bucketOf b has m p })
 
-    pub walk-from : (along : Bool) (i : ℕ) → b < buckets → i ≡ head b index → Walk f b k (f k (drop k ss)) ss along i
-    walk-from along i l e = chained k i along (omega arith) refl (e ∙ x .heads b l)
+    pub walk-from : (along : Bool) (i : ℕ) → b < buckets → i ≡ recordOf (head b index) → Walk f b k (f k (drop k ss)) ss along i
+    walk-from along i l e = chained k i along (omega arith) refl (e ∙ head-record k ss index x b l)
 
     -- From the record at i, of the bucket, on to the next of it.
-    pub walk-on : {w : A} (along : Bool) (i j : ℕ) → i < length ss → k ≤ i → bucketOf (getD ss i []) ≡ b → f (i + 1) (drop (i + 1) ss) ≡ w → j ≡ link i index
+    pub walk-on : {w : A} (along : Bool) (i j : ℕ) → i < length ss → k ≤ i → bucketOf (getD ss i []) ≡ b → f (i + 1) (drop (i + 1) ss) ≡ w → j ≡ recordOf (link i index)
         → Walk f b k w ss along j
-    walk-on along i j h l m p e = chained (i + 1) j along (omega arith) p (e ∙ rw m at (x .links i l h))
+    walk-on along i j h l m p e = chained (i + 1) j along (omega arith) p (e ∙ rw m at (link-record k ss index x i l h))
 
     -- The record at i does not pass. A chain that was left is not taken up again.
     pub walk-past : {w : A} (kd : ℕ) → ((s : List ℕ) → q s ≡ true → kind s ≡ kd) → (along next : Bool) (i j : ℕ) → (next ≡ true → along ≡ true)
@@ -166,25 +199,47 @@ by-class kd i ss = skip kindClass (firstFrom kind kd) (kd % kind-classes) other 
     other j s ts e = rw (ne-eqb (kind s) kd (λ q. eqb-false (kindClass s) (kd % kind-classes) e (rw q refl)))
 
 -- The next of a kind after the i-th is not before the first of its class.
-pub kind-after : (kd k i : ℕ) (ss : List (List ℕ)) → k ≤ i → i < nextIn kindClass (kd % kind-classes) k ss
+kind-after : (kd k i : ℕ) (ss : List (List ℕ)) → k ≤ i → i < nextIn kindClass (kd % kind-classes) k ss
     → nextIn kind kd (i + 1) ss ≡ nextIn kind kd (nextIn kindClass (kd % kind-classes) k ss) ss
 kind-after kd k i ss l h =
     let z : k + (i + 1 - k) ≡ i + 1 = omega arith in
     let a : nextIn kindClass (kd % kind-classes) (i + 1) ss ≡ nextIn kindClass (kd % kind-classes) k ss = rw z at (next-again kindClass (kd % kind-classes) k ss (i + 1 - k) (omega arith)) in
     rw a at (by-class kd (i + 1) ss)
 
--- After the last of its class there is none of a kind.
-pub kind-end : (kd last i : ℕ) (ss : List (List ℕ)) → last ≤ i → i < length ss → nextIn kindClass (kd % kind-classes) (last + 1) ss ≡ length ss
+pub kind-later : (kd k i first : ℕ) (ss : List (List ℕ)) → k ≤ i → first ≡ nextIn kindClass (kd % kind-classes) k ss
+    → nextIn kind kd (if ltb first (i + 1) then i + 1 else first) ss ≡ nextIn kind kd (i + 1) ss
+kind-later kd k i first ss l e = go (ltb first (i + 1)) refl
+  where
+    go : (t : Bool) → ltb first (i + 1) ≡ t → nextIn kind kd (if t then i + 1 else first) ss ≡ nextIn kind kd (i + 1) ss
+    go true q = refl
+    go false q = rw e (sym (kind-after kd k i ss l (omega (arith, ltb-false first (i + 1) q))))
+
+-- After the last of its class there is none of a kind, nor where the class is empty.
+kind-end : (kd last i : ℕ) (ss : List (List ℕ)) → last ≤ i → i < length ss → nextIn kindClass (kd % kind-classes) (last + 1) ss ≡ length ss
     → nextIn kind kd (i + 1) ss ≡ length ss
 kind-end kd last i ss l h e =
     let z : last + 1 + (i - last) ≡ i + 1 = omega arith in
     let a : nextIn kindClass (kd % kind-classes) (i + 1) ss ≡ length ss = rw z at (next-again kindClass (kd % kind-classes) (last + 1) ss (i - last) (omega arith)) ∙ e in
     rw a at (by-class kd (i + 1) ss) ∙ next-end kind kd (length ss) ss (omega arith)
 
+pub kind-past : (k : ℕ) (ss : List (List ℕ)) (index : List ℕ) → IndexedFrom k ss index → (kd i : ℕ) → k ≤ i → i < length ss → kindLast (kd % kind-classes) index ≤ i
+    → nextIn kind kd (i + 1) ss ≡ length ss
+kind-past k ss index x kd i l h p = go (ltb (kindHead c index) (length ss)) refl
+  where
+    c : ℕ
+    c = kd % kind-classes
+
+    go : (t : Bool) → ltb (kindHead c index) (length ss) ≡ t → nextIn kind kd (i + 1) ss ≡ length ss
+    go true q = kind-end kd (kindLast c index) i ss p h (x .lasts c (omega arith) (ltb-true (kindHead c index) (length ss) q))
+    go false q =
+        let e : nextIn kindClass c k ss ≡ length ss =
+        omega (arith, ltb-false (kindHead c index) (length ss) q, x .kinds c (omega arith), next-high kindClass c k ss (x .within)) in
+        kind-after kd k i ss l (omega arith) ∙ rw e (next-end kind kd (length ss) ss (omega arith))
+
 -- A walk goes on: the record that is tried next comes after the i-th.
 pub after-later : (k : ℕ) (ss : List (List ℕ)) (index : List ℕ) → IndexedFrom k ss index → (along : Bool) (kd i : ℕ) → k ≤ i → i < length ss
     → i < after along kd i ss index
-after-later k ss index x true kd i l h = omega (arith, x .links i l h, next-low bucketOf (bucketOf (getD ss i [])) (i + 1) ss)
+after-later k ss index x true kd i l h = omega (arith, link-record k ss index x i l h, next-low bucketOf (bucketOf (getD ss i [])) (i + 1) ss)
 after-later k ss index x false kd i l h = omega (arith, next-low kind kd (i + 1) ss)
 
 -- Where so many links may be followed and one more, so many may.

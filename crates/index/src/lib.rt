@@ -1,17 +1,19 @@
 // The records of a site by number, and an index of them that a call keeps on its stack. A record falls into a bucket by what it is looked up by. The
 // index has a link for each record, the next record of its bucket in file order, then a head for each bucket, its first record, and then the first and
-// the last record of each kind. The number of records ends a chain. Nothing else knows where these stand.
+// the last record of each kind. The number of records ends a chain. Above the record's number a link or a head has the tags of the rules from there on
+// in its chain, a bit each, so that a walk for rules ends where none of their tag is left. Nothing else knows where these stand.
 ghost use mathlib.Core.Path.{_≡_};
 ghost use mathlib.Core.List.{[]};
-ghost use Prim.Native.Nat.{ℕ, _+_, _%_, _≤_, _<_};
-ghost use lib.Dec.{eqb};
+ghost use Prim.Native.Nat.{ℕ, _+_, _*_, _/_, _%_, _≤_, _<_};
+ghost use lib.Bits.{bitOr};
+ghost use lib.Dec.{eqb, ltb};
 ghost use lib.ListN.{length, getD};
-ghost use Rattle.model.specs.Words.{if_then_else_};
+ghost use Rattle.model.specs.Words.{if_then_else_, bit};
 ghost use Rattle.octets.specs.Octets.{field};
 ghost use Rattle.model.specs.Site as Site;
 ghost use Rattle.model.specs.Site.{records};
 ghost use Rattle.index.specs.Index as Index;
-ghost use Rattle.index.specs.Index.{most-records, buckets, kind-classes, index-size, kindHead, kindLast, objectBucket, ruleBucket, factorBucket, bucketOf, nextIn, IndexedFrom};
+ghost use Rattle.index.specs.Index.{most-records, buckets, kind-classes, index-size, chain-scale, tags, rule-classes, kindHead, kindLast, objectBucket, ruleClass, factorBucket, Slotted, recordOf, nextIn, IndexedFrom};
 use model::numbers::ACCESS_RULE;
 use model::numbers::AUTHENTICATION_FACTOR;
 use model::numbers::MODULUS;
@@ -26,6 +28,12 @@ pub const BUCKETS: usize = 1024;
 const KIND_CLASSES: usize = 8;
 
 pub const INDEX_SIZE: usize = 3040;
+
+// What the tags of a link or a head are multiples of: a record's number, or the number of records, is below it. A tag is one of five, a bit each of the
+// sixteen.
+const CHAIN_SCALE: u16 = 2048;
+
+const TAGS: usize = 5;
 
 // What an index holds before it is built. Its two bytes differ: a fill with equal bytes becomes a call of memset, and so of another library.
 pub const UNBUILT: u16 = 2000;
@@ -45,6 +53,15 @@ const SPREAD_SCALE: usize = 1048576;
 
 const SPREAD_TURN: usize = 204;
 
+// Of the bits below those that choose a bucket, the upper ten choose a tag.
+const TAG_SCALE: usize = 1024;
+
+// Where a record goes: its bucket, and the bit of its tag, where it is a rule.
+pub struct Slot {
+    pub bucket: usize,
+    pub mark: u16,
+}
+
 pub fn record_count(site: &[u8]) -> usize
     ensures { λ r. ⌜ r ≡ length (records (now (site .entry))) ⌝ }
 {
@@ -59,27 +76,37 @@ pub fn record_at(site: &[u8], i: usize) -> &[u8]
     octets::group(site, i)
 }
 
-fn spread(a: u32, b: u32, c: u32, turn: u16) -> usize
-    ensures { λ r. ⌜ (r ≡ Index.spread a b c turn) × (r < buckets) ⌝ }
+fn mixed(a: u32, b: u32, c: u32) -> usize
+    ensures { λ r. ⌜ r ≡ Index.mixed a b c ⌝ }
 {
-    let sum = (a as usize) * SPREAD_FIRST
-        + (b as usize) * SPREAD_SECOND
-        + (c as usize) * SPREAD_THIRD;
+    (a as usize) * SPREAD_FIRST + (b as usize) * SPREAD_SECOND + (c as usize) * SPREAD_THIRD
+}
+
+fn spread(sum: usize, turn: u16) -> usize
+    ensures { λ r. ⌜ (r ≡ Index.spread sum turn) × (r < buckets) ⌝ }
+{
     (sum / SPREAD_SCALE + (turn as usize) * SPREAD_TURN) % BUCKETS
+}
+
+fn tag_of(sum: usize) -> usize
+    ensures { λ r. ⌜ (r ≡ Index.tagOf sum) × (r < tags) ⌝ }
+{
+    sum / TAG_SCALE % TAG_SCALE * TAGS / TAG_SCALE
 }
 
 // The bucket of a zone, a point or a credential.
 pub fn object_bucket(kind: u8, instance: u32) -> usize
     ensures { λ r. ⌜ (r ≡ objectBucket kind instance) × (r < buckets) ⌝ }
 {
-    spread(instance, 0, 0, kind as u16)
+    spread(mixed(instance, 0, 0), kind as u16)
 }
 
-// The bucket of the rules of a rights number at a location; everywhere is location 0 of kind 0.
-pub fn rule_bucket(rights: u32, kind: u8, location: u32) -> usize
-    ensures { λ r. ⌜ (r ≡ ruleBucket rights kind location) × (r < buckets) ⌝ }
+// The class of the rules of a rights number at a location, of a bucket and a tag; everywhere is location 0 of kind 0.
+pub fn rule_class(rights: u32, kind: u8, location: u32) -> usize
+    ensures { λ r. ⌜ (r ≡ ruleClass rights kind location) × (r < rule-classes) ⌝ }
 {
-    spread(rights, location, kind as u32, ACCESS_RULE as u16)
+    let sum = mixed(rights, location, kind as u32);
+    tag_of(sum) * BUCKETS + spread(sum, ACCESS_RULE as u16)
 }
 
 // The bucket of the factors of a format, of the value at an offset and, where they confirm, of a credential.
@@ -89,12 +116,8 @@ fn factor_bucket(format: u8, part: &[u8], at: usize, owner: u32) -> usize
 {
     let words = octets::get_u64(part, at);
     let turn = (format as u16) + (AUTHENTICATION_FACTOR as u16);
-    spread(
-        (words % MODULUS) as u32,
-        (words / MODULUS) as u32,
-        owner,
-        turn,
-    )
+    let sum = mixed((words % MODULUS) as u32, (words / MODULUS) as u32, owner);
+    spread(sum, turn)
 }
 
 // The same of a value by itself.
@@ -114,29 +137,39 @@ fn owner_of(part: &[u8]) -> u32
     octets::get_u32(part, 4)
 }
 
-fn bucket_of_rule(part: &[u8]) -> usize
+fn class_of_rule(part: &[u8]) -> usize
     requires { ⌜ length (now part) ≡ 32 ⌝ }
-    ensures { λ r. ⌜ (r ≡ Index.bucketOfRule (now (part .entry))) × (r < buckets) ⌝ }
+    ensures { λ r. ⌜ (r ≡ Index.classOfRule (now (part .entry))) × (r < rule-classes) ⌝ }
 {
     let rights = octets::get_u32(part, 4);
     if records::flag_of(part, 3) {
-        return rule_bucket(rights, 0, 0);
+        return rule_class(rights, 0, 0);
     }
-    rule_bucket(rights, octets::get_u8(part, 2), octets::get_u32(part, 8))
+    rule_class(rights, octets::get_u8(part, 2), octets::get_u32(part, 8))
 }
 
-fn bucket_of(part: &[u8]) -> usize
+fn slot_of(part: &[u8]) -> Slot
     requires { ⌜ length (now part) ≡ 32 ⌝ }
-    ensures { λ r. ⌜ (r ≡ bucketOf (now (part .entry))) × (r < buckets) ⌝ }
+    ensures { λ r. ⌜ Slotted (now (part .entry)) r ⌝ }
 {
     let kind = octets::get_u8(part, 0);
-    if kind == AUTHENTICATION_FACTOR {
-        return factor_bucket(octets::get_u8(part, 8), part, 16, owner_of(part));
-    }
     if kind == ACCESS_RULE {
-        return bucket_of_rule(part);
+        let class = class_of_rule(part);
+        return Slot {
+            bucket: class % BUCKETS,
+            mark: (1 as u16) << (class / BUCKETS),
+        };
     }
-    object_bucket(kind, octets::get_u32(part, 4))
+    if kind == AUTHENTICATION_FACTOR {
+        return Slot {
+            bucket: factor_bucket(octets::get_u8(part, 8), part, 16, owner_of(part)),
+            mark: 0,
+        };
+    }
+    Slot {
+        bucket: object_bucket(kind, octets::get_u32(part, 4)),
+        mark: 0,
+    }
 }
 
 fn kind_class(kind: u8) -> usize
@@ -165,6 +198,14 @@ fn last_after(head: u16, last: u16, end: u16, i: u16) -> u16
     if head == end { i } else { last }
 }
 
+// A chain with the i-th record, which has a mark, before its first.
+fn put_before(chain: u16, mark: u16, i: u16) -> u16
+    requires { ⌜ (i < chain-scale) × (mark < 32) ⌝ }
+    ensures { λ r. ⌜ r ≡ i + bitOr mark (chain / chain-scale) * chain-scale ⌝ }
+{
+    i + (mark | (chain / CHAIN_SCALE)) * CHAIN_SCALE
+}
+
 // The i-th record is put before the later ones of its bucket.
 pub fn insert(site: &[u8], index: &mut [u16], i: usize)
     requires { ⌜ IndexedFrom (i + 1) (records (now site)) (now index) ⌝ }
@@ -172,7 +213,8 @@ pub fn insert(site: &[u8], index: &mut [u16], i: usize)
     ensures { λ _. ⌜ IndexedFrom i (records (now (site .entry))) (now (index .exit)) ⌝ }
 {
     let part = record_at(site, i);
-    let head = MOST_RECORDS + bucket_of(part);
+    let slot = slot_of(part);
+    let head = MOST_RECORDS + slot.bucket;
     let kind_head = MOST_RECORDS + BUCKETS + kind_class(octets::get_u8(part, 0));
     let kind_last = kind_head + KIND_CLASSES;
     let last = last_after(
@@ -181,8 +223,9 @@ pub fn insert(site: &[u8], index: &mut [u16], i: usize)
         record_count(site) as u16,
         i as u16,
     );
-    index[i] = index[head];
-    index[head] = i as u16;
+    let chain = index[head];
+    index[i] = chain;
+    index[head] = put_before(chain, slot.mark, i as u16);
     index[kind_head] = i as u16;
     index[kind_last] = last;
 }
@@ -193,20 +236,50 @@ fn wide(x: u16) -> usize
     x as usize
 }
 
-// The first record of a bucket.
-pub fn first_of(index: &[u16], bucket: usize) -> usize
+// The chain of a bucket, and what of it follows the i-th record.
+pub fn head_of(index: &[u16], bucket: usize) -> u16
     requires { ⌜ (length (now index) ≡ index-size) × (bucket < buckets) ⌝ }
     ensures { λ r. ⌜ r ≡ Index.head bucket (now (index .entry)) ⌝ }
 {
-    wide(index[MOST_RECORDS + bucket])
+    index[MOST_RECORDS + bucket]
+}
+
+pub fn link_of(index: &[u16], i: usize) -> u16
+    requires { ⌜ (length (now index) ≡ index-size) × (i < most-records) ⌝ }
+    ensures { λ r. ⌜ r ≡ Index.link i (now (index .entry)) ⌝ }
+{
+    index[i]
+}
+
+// The first record of a chain.
+pub fn record_of(chain: u16) -> usize
+    ensures { λ r. ⌜ r ≡ recordOf chain ⌝ }
+{
+    (chain % CHAIN_SCALE) as usize
+}
+
+// Whether a chain may hold a rule of the class: one of its tag is in it.
+pub fn may_hold(chain: u16, class: usize) -> bool
+    requires { ⌜ class < rule-classes ⌝ }
+    ensures { λ r. ⌜ r ≡ bit (chain / chain-scale) (class / buckets) ⌝ }
+{
+    ((chain / CHAIN_SCALE) >> (class / BUCKETS)) % 2 == 1
+}
+
+// The first record of a bucket.
+pub fn first_of(index: &[u16], bucket: usize) -> usize
+    requires { ⌜ (length (now index) ≡ index-size) × (bucket < buckets) ⌝ }
+    ensures { λ r. ⌜ r ≡ recordOf (Index.head bucket (now (index .entry))) ⌝ }
+{
+    record_of(head_of(index, bucket))
 }
 
 // The next record of the bucket of the i-th.
 pub fn next_of(index: &[u16], i: usize) -> usize
     requires { ⌜ (length (now index) ≡ index-size) × (i < most-records) ⌝ }
-    ensures { λ r. ⌜ r ≡ Index.link i (now (index .entry)) ⌝ }
+    ensures { λ r. ⌜ r ≡ recordOf (Index.link i (now (index .entry))) ⌝ }
 {
-    wide(index[i])
+    record_of(link_of(index, i))
 }
 
 // The first record of a kind from a number on.
@@ -239,6 +312,12 @@ fn last_of_kind(index: &[u16], kind: u8) -> usize
     wide(index[MOST_RECORDS + BUCKETS + KIND_CLASSES + kind_class(kind)])
 }
 
+fn later(i: usize, j: usize) -> usize
+    ensures { λ r. ⌜ r ≡ (if ltb i j then j else i) ⌝ }
+{
+    if i < j { j } else { i }
+}
+
 // The record that a walk for a kind tries after the i-th: the next of its bucket, or the next of the kind, which is sought only from its first record to
 // its last.
 pub fn after(site: &[u8], index: &[u16], kind: u8, i: usize, along: bool) -> usize
@@ -248,12 +327,8 @@ pub fn after(site: &[u8], index: &[u16], kind: u8, i: usize, along: bool) -> usi
     if along {
         return next_of(index, i);
     }
-    let first = first_of_kind(index, kind);
-    if i < first {
-        return next_of_kind(site, kind, first);
-    }
     if last_of_kind(index, kind) <= i {
         return record_count(site);
     }
-    next_of_kind(site, kind, i + 1)
+    next_of_kind(site, kind, later(first_of_kind(index, kind), i + 1))
 }

@@ -1,13 +1,14 @@
--- What the rules are asked, what they find, and in which buckets a walk over them looks.
+-- What the rules are asked, what they find, and the classes that a walk over them goes through.
 use Prim.Native.Nat.{ℕ, _<_}
+use mathlib.Core.Path.{_≡_}
 use mathlib.Core.List.{List, [], _∷_}
 use mathlib.Core.Bool.{Bool, false, _||_}
 use lib.Dec.{eqb}
-use Rattle.model.specs.Words.{any}
-use Rattle.model.specs.Numbers.{access-zone, access-point}
+use Rattle.model.specs.Words.{if_then_else_, keep, any}
+use Rattle.model.specs.Numbers.{NONE, access-zone, access-point}
 use Rattle.model.specs.Checks.{verdict}
 use Rattle.model.specs.declared.Verdict.{Verdict}
-use Rattle.index.specs.Index.{buckets, ruleBucket, bucketOf}
+use Rattle.index.specs.Index.{rule-classes, ruleClass, inClass}
 use Rattle.rules.specs.declared.Asked.{Asked}
 
 -- What the rules among some records find of what is asked.
@@ -27,26 +28,31 @@ both v w =
       «positive_located» = v .«positive_located» || w .«positive_located»;
     }
 
--- A record of a bucket.
-abbrev pub inBucket : ℕ → List ℕ → Bool
-inBucket b s = eqb (bucketOf s) b
+-- From v to w what the records that a test keeps find is gained, and nothing that no record finds: what else completes the one to the findings of all
+-- completes the other.
+abbrev pub Gains : Asked → (List ℕ → Bool) → List (List ℕ) → Verdict → Verdict → Type 0
+Gains a q ss v w = (rest : Verdict) → both v (both (findings a (keep q ss)) rest) ≡ findings a ss → both w rest ≡ findings a ss
 
--- A record of one of some buckets.
+-- A rule of one of some classes.
 abbrev pub inSome : List ℕ → List ℕ → Bool
-inSome bs s = any (λ b. inBucket b s) bs
+inSome cs s = any (λ c. inClass c s) cs
 
--- The buckets of what is asked: everywhere, at the point and at its Zone_To, each of the one rights number and of the other.
-abbrev pub ruleBuckets : Asked → List ℕ
-ruleBuckets a =
-    ruleBucket (a .first) 0 0
-    ∷ ruleBucket (a .second) 0 0
-    ∷ ruleBucket (a .first) access-point (a .point)
-    ∷ ruleBucket (a .second) access-point (a .point)
-    ∷ ruleBucket (a .first) access-zone (a .to)
-    ∷ ruleBucket (a .second) access-zone (a .to)
+-- The classes of what is asked: everywhere, at the point and at its Zone_To, of the one rights number and then of the other.
+abbrev pub ruleClasses : Asked → List ℕ
+ruleClasses a =
+    ruleClass (a .first) 0 0
+    ∷ ruleClass (a .first) access-point (a .point)
+    ∷ ruleClass (a .first) access-zone (a .to)
+    ∷ ruleClass (a .second) 0 0
+    ∷ ruleClass (a .second) access-point (a .point)
+    ∷ ruleClass (a .second) access-zone (a .to)
     ∷ []
 
--- Each of a list is a bucket.
-abbrev pub Buckets : List ℕ → Type 0
-Buckets [] = Unit
-Buckets (b ∷ bs) = (b < buckets) × Buckets bs
+-- Each of a list is a class of rules.
+abbrev pub Classes : List ℕ → Type 0
+Classes [] = Unit
+Classes (c ∷ cs) = (c < rule-classes) × Classes cs
+
+-- How many of them are walked: those of the second rights number are not where it is the first again, or NONE.
+unfoldable pub classCount : Asked → ℕ
+classCount a = if eqb (a .second) (a .first) || eqb (a .second) NONE then 3 else 6

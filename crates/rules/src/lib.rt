@@ -13,16 +13,17 @@ use model::numbers::SECONDS_OF_MINUTE;
 ghost use mathlib.Core.Path.{_≡_};
 ghost use mathlib.Core.List.{[], _∷_};
 ghost use mathlib.Core.Bool.{true};
-ghost use Prim.Native.Nat.{_<_};
+ghost use Prim.Native.Nat.{_≤_, _<_};
 ghost use lib.ListN.{length};
-ghost use Rattle.model.specs.Words.{keep};
 ghost use Rattle.model.specs.Site.{records};
 ghost use Rattle.model.specs.Checks.{enabledRule, locationFits, weekday, minuteOfDay, timeFits};
-ghost use Rattle.index.specs.Index.{buckets, Indexed};
-ghost use Rattle.rules.specs.Walk.{nothingFound, both, findings, inBucket, ruleBuckets, Buckets};
+ghost use Rattle.index.specs.Index.{rule-classes, inClass, Indexed};
+ghost use Rattle.rules.specs.Walk.{nothingFound, both, findings, Gains, ruleClasses, Classes, classCount};
 
-// The buckets of each of two rights numbers: everywhere, at a point, at its Zone_To.
-const RULE_BUCKETS: usize = 6;
+// The classes of a rights number, everywhere, at a point, at its Zone_To; those of two.
+const NUMBER_CLASSES: usize = 3;
+
+const RULE_CLASSES: usize = 6;
 
 // How many links of a chain are followed at most: rules of one rights number and location make long chains, so that more are than for a lookup.
 const LONG_CHAIN: usize = 32;
@@ -125,24 +126,25 @@ fn with_record(v: Verdict, part: &[u8], a: Asked) -> Verdict
     }
 }
 
-// What is found so far, with what the records of a bucket add to it: only those of its chain are read. A chain that is too long is left.
-fn with_bucket(site: &[u8], index: &[u16], found: Verdict, bucket: usize, a: Asked) -> Walked
-    requires { ⌜ Indexed (now site) (now index) × (bucket < buckets) ⌝ }
-    ensures { λ r. ⌜ (r .ended ≡ true → r .verdict ≡ both found (findings a (keep (inBucket bucket) (records (now (site .entry)))))) ⌝ }
+// What is found so far, with what the rules of a class add to it: records of their bucket are read as long as the chain may hold one. A chain that is
+// too long is left.
+fn with_class(site: &[u8], index: &[u16], found: Verdict, class: usize, a: Asked) -> Walked
+    requires { ⌜ Indexed (now site) (now index) × (class < rule-classes) ⌝ }
+    ensures { λ r. ⌜ (r .ended ≡ true → Gains a (inClass class) (records (now (site .entry))) found (r .verdict)) ⌝ }
 {
-    let n = index::record_count(site);
     let mut v = found;
     let mut links = 0;
-    let mut i = index::first_of(index, bucket);
-    while i < n {
+    let mut chain = index::head_of(index, class % index::BUCKETS);
+    while index::may_hold(chain, class) {
         if links == LONG_CHAIN {
             return Walked {
                 verdict: v,
                 ended: false,
             };
         }
+        let i = index::record_of(chain);
         v = with_record(v, index::record_at(site, i), a);
-        i = index::next_of(index, i);
+        chain = index::link_of(index, i);
         links += 1;
     }
     Walked {
@@ -165,41 +167,45 @@ fn scanned(site: &[u8], a: Asked) -> Verdict
     v
 }
 
-// The buckets of what is asked: a rule of the rights that fits in location is in one of them. The two numbers' of a location stand side by side, for
-// they are one where the numbers are. Those of NONE are among them too: a rule of that number counts for nothing.
-fn rule_buckets(a: Asked) -> [usize; RULE_BUCKETS]
-    ensures { λ r. ⌜ (r ≡ ruleBuckets a) × Buckets r ⌝ }
+// The classes of what is asked, first those of the one rights number: a rule of the rights that fits in location is of one of them.
+fn rule_classes(a: Asked) -> [usize; RULE_CLASSES]
+    ensures { λ r. ⌜ (r ≡ ruleClasses a) × Classes r ⌝ }
 {
     [
-        index::rule_bucket(a.first, 0, 0),
-        index::rule_bucket(a.second, 0, 0),
-        index::rule_bucket(a.first, ACCESS_POINT, a.point),
-        index::rule_bucket(a.second, ACCESS_POINT, a.point),
-        index::rule_bucket(a.first, ACCESS_ZONE, a.to),
-        index::rule_bucket(a.second, ACCESS_ZONE, a.to),
+        index::rule_class(a.first, 0, 0),
+        index::rule_class(a.first, ACCESS_POINT, a.point),
+        index::rule_class(a.first, ACCESS_ZONE, a.to),
+        index::rule_class(a.second, 0, 0),
+        index::rule_class(a.second, ACCESS_POINT, a.point),
+        index::rule_class(a.second, ACCESS_ZONE, a.to),
     ]
 }
 
-// What the rules of the site find. A bucket is not walked twice in a row, for all six may be one that holds every record. Before the first, the last
-// is BUCKETS, which is none. Where a chain is too long, all records are read.
+// How many of the classes are walked: where the second rights number is the first again, or NONE, it has no rules of its own.
+fn class_count(a: Asked) -> usize
+    ensures { λ r. ⌜ (r ≡ classCount a) × (r ≤ 6) ⌝ }
+{
+    if (a.second == a.first) | (a.second == NONE) {
+        return NUMBER_CLASSES;
+    }
+    RULE_CLASSES
+}
+
+// What the rules of the site find. Where a chain is too long, all records are read.
 pub fn verdict_of(site: &[u8], index: &[u16], a: Asked) -> Verdict
     requires { ⌜ Indexed (now site) (now index) ⌝ }
     ensures { λ r. ⌜ r ≡ findings a (records (now (site .entry))) ⌝ }
 {
-    let places = rule_buckets(a);
+    let classes = rule_classes(a);
+    let count = class_count(a);
     let mut v = nothing();
-    let mut last = index::BUCKETS;
     let mut k = 0;
-    while k < RULE_BUCKETS {
-        let bucket = places[k];
-        if bucket != last {
-            let w = with_bucket(site, index, v, bucket, a);
-            if !w.ended {
-                return scanned(site, a);
-            }
-            v = w.verdict;
-            last = bucket;
+    while k < count {
+        let w = with_class(site, index, v, classes[k], a);
+        if !w.ended {
+            return scanned(site, a);
         }
+        v = w.verdict;
         k += 1;
     }
     v

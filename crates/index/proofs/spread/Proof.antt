@@ -11,8 +11,4 @@ unfolding spread
 returns c = (refl, omega arith)
 
 pub spread-spec : {M : Type 1} → statement M
-spread-spec =
-    tie.close
-    (tie.spec
-    (λ c. search needs) (λ c. search needs) (λ c. search needs) (λ c. search needs) (λ c. search needs) (λ c. search needs) (λ c. search needs)
-    returns)
+spread-spec = tie.close (tie.spec (λ c. search needs) (λ c. search needs) returns)

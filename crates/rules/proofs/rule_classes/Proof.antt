@@ -1,10 +1,10 @@
--- Each of the six is computed, and is a bucket.
+-- Each of the six is computed, and is a class.
 use borrow.Author.Needs.{needs}
-use Rattle.rules.proofs.rule_buckets.Statement.{statement}
-use Rattle.rules.proofs.rule_buckets.Tie as tie
+use Rattle.rules.proofs.rule_classes.Statement.{statement}
+use Rattle.rules.proofs.rule_classes.Tie as tie
 
-pub rule-buckets-spec : {M : Type 1} → statement M
-rule-buckets-spec =
+pub rule-classes-spec : {M : Type 1} → statement M
+rule-classes-spec =
     tie.close
     (tie.spec
     (λ c κs. search needs) (λ c κs. search needs) (λ c κs. search needs)

@@ -1,18 +1,18 @@
 -- The rights number, with the location unless everywhere.
 use borrow.Author.Needs.{needs}
 use borrow.Author.Tests.{not-true, not-false}
-use Rattle.index.specs.Index.{bucketOfRule}
-use Rattle.index.proofs.bucket_of_rule.Statement.{statement}
-use Rattle.index.proofs.bucket_of_rule.Tie as tie
+use Rattle.index.specs.Index.{classOfRule}
+use Rattle.index.proofs.class_of_rule.Statement.{statement}
+use Rattle.index.proofs.class_of_rule.Tie as tie
 
 returns : tie.Need-returns
-unfolding bucketOfRule
+unfolding classOfRule
 returns c =
     let f = c .before .before in
-    (rw (← f .flag-of .ensures, c .before .if1 .taken, ← f .before .get-u32 .ensures) (c .rule-bucket .ensures .0), c .rule-bucket .ensures .1)
+    (rw (← f .flag-of .ensures, c .before .if1 .taken, ← f .before .get-u32 .ensures) (c .rule-class .ensures .0), c .rule-class .ensures .1)
 
 returns-2 : tie.Need-returns-2
-unfolding bucketOfRule
+unfolding classOfRule
 returns-2 c =
     let f = c .before .before .before .before in (
       rw (
@@ -21,12 +21,12 @@ returns-2 c =
         ← f .before .get-u32 .ensures,
         ← c .before .before .get-u8 .ensures,
         ← c .before .get-u322 .ensures,
-      ) (c .rule-bucket2 .ensures .0),
-      c .rule-bucket2 .ensures .1,
+      ) (c .rule-class2 .ensures .0),
+      c .rule-class2 .ensures .1,
     )
 
-pub bucket-of-rule-spec : {M : Type 1} → statement M
-bucket-of-rule-spec =
+pub class-of-rule-spec : {M : Type 1} → statement M
+class-of-rule-spec =
     tie.close
     (tie.spec
     (λ c κs. search needs) (λ c κs. search needs) (λ c κs. search needs)
