@@ -14,7 +14,7 @@ use Rattle.model.specs.Words.{if_then_else_, keep, bit}
 use Rattle.model.specs.Numbers.{access-rule}
 use Rattle.model.specs.Site.{kind}
 use Rattle.model.proofs.Laws.{and-left, and-right}
-use Rattle.index.specs.Index.{buckets, classOfRule, bucketOf, inClass, markOf, tagsOf}
+use Rattle.index.specs.Index.{tags, classOfRule, bucketOf, inClass, markOf, tagsOf}
 
 -- A bit of either of two numbers is a bit of their union.
 one-or : (x : ℕ) → x < 2 → bitOr 1 x ≡ 1
@@ -29,12 +29,12 @@ own-bit : (t : ℕ) → bit (2 ^ t) t ≡ true
 own-bit t = rw (rw one-mul at (shl-shr 1 t))
 
 -- A rule of a class has its tag in the chain.
-rule-tag : (c : ℕ) (s : List ℕ) (ss : List (List ℕ)) → inClass c s ≡ true → bit (tagsOf (c % buckets) (s ∷ ss)) (c / buckets) ≡ true
+rule-tag : (c : ℕ) (s : List ℕ) (ss : List (List ℕ)) → inClass c s ≡ true → bit (tagsOf (c / tags) (s ∷ ss)) (c % tags) ≡ true
 unfolding tagsOf bucketOf markOf
 rule-tag c s ss e =
     let k : kind s ≡ access-rule = eqb-true (kind s) access-rule (and-left (eqb (kind s) access-rule) (eqb (classOfRule s) c) e) in
     let q : classOfRule s ≡ c = eqb-true (classOfRule s) c (and-right (eqb (kind s) access-rule) (eqb (classOfRule s) c) e) in
-    rw (k, q, eq-eqb (c % buckets) (c % buckets) refl) (either (2 ^ (c / buckets)) (tagsOf (c % buckets) ss) (c / buckets) (own-bit (c / buckets)))
+    rw (k, q, eq-eqb (c / tags) (c / tags) refl) (either (2 ^ (c % tags)) (tagsOf (c / tags) ss) (c % tags) (own-bit (c % tags)))
 
 -- A record before takes no tag away.
 tag-stays : (b t : ℕ) (s : List ℕ) (ss : List (List ℕ)) → bit (tagsOf b ss) t ≡ true → bit (tagsOf b (s ∷ ss)) t ≡ true
@@ -51,12 +51,12 @@ unfolding tagsOf
 some-left b t [] e = absurd (false≢true (rw zero-div at e))
 some-left b t (s ∷ ss) e = omega arith
 
-pub none-left : (c : ℕ) (ss : List (List ℕ)) → bit (tagsOf (c % buckets) ss) (c / buckets) ≡ false → keep (inClass c) ss ≡ []
+pub none-left : (c : ℕ) (ss : List (List ℕ)) → bit (tagsOf (c / tags) ss) (c % tags) ≡ false → keep (inClass c) ss ≡ []
 none-left c [] e = refl
-none-left c (s ∷ ss) e = go (inClass c s) refl (bit (tagsOf (c % buckets) ss) (c / buckets)) refl (none-left c ss)
+none-left c (s ∷ ss) e = go (inClass c s) refl (bit (tagsOf (c / tags) ss) (c % tags)) refl (none-left c ss)
   where
-    go : (x : Bool) → inClass c s ≡ x → (y : Bool) → bit (tagsOf (c % buckets) ss) (c / buckets) ≡ y → (y ≡ false → keep (inClass c) ss ≡ [])
+    go : (x : Bool) → inClass c s ≡ x → (y : Bool) → bit (tagsOf (c / tags) ss) (c % tags) ≡ y → (y ≡ false → keep (inClass c) ss ≡ [])
         → if x then s ∷ keep (inClass c) ss else keep (inClass c) ss ≡ []
     go true p y q ih = absurd (false≢true (sym e ∙ rule-tag c s ss p))
-    go false p true q ih = absurd (false≢true (sym e ∙ tag-stays (c % buckets) (c / buckets) s ss q))
+    go false p true q ih = absurd (false≢true (sym e ∙ tag-stays (c / tags) (c % tags) s ss q))
     go false p false q ih = ih refl

@@ -32,17 +32,17 @@ abbrev pub chain-scale : ℕ
 chain-scale = 2048
 
 abbrev pub tags : ℕ
-tags = 5
+tags = 4
 
 abbrev pub rule-classes : ℕ
-rule-classes = 5120
+rule-classes = 4096
 
--- Three numbers in one, which is spread over the buckets, and turned on by a fourth.
+-- Three numbers in one; spread over the buckets, and turned on by a fourth.
 abbrev pub mixed : ℕ → ℕ → ℕ → ℕ
 mixed a b c = a * 663608941 + b * 444758427 + c * 786033565
 
-unfoldable pub spread : ℕ → ℕ → ℕ
-spread sum turn = (sum / 1048576 + turn * 204) % buckets
+unfoldable pub spread : ℕ → ℕ → ℕ → ℕ → ℕ
+spread a b c turn = (mixed a b c / 1048576 + turn * 204) % buckets
 
 -- The kinds whose records are looked up by their instance alone: all but rules and factors.
 abbrev pub ByInstance : ℕ → Type 0
@@ -50,15 +50,12 @@ ByInstance k = (k ≡ access-rule → ⊥) × (k ≡ authentication-factor → �
 
 -- A zone, a point or a credential is looked up by its kind and instance.
 abbrev pub objectBucket : ℕ → ℕ → ℕ
-objectBucket k i = spread (mixed i 0 0) k
+objectBucket k i = spread i 0 0 k
 
--- A rule is looked up by its rights number and its location; everywhere is location 0 of kind 0. Its class is of its bucket, and of a tag that other
--- bits choose.
-unfoldable pub tagOf : ℕ → ℕ
-tagOf sum = sum / 1024 % 1024 * tags / 1024
-
-abbrev pub ruleClass : ℕ → ℕ → ℕ → ℕ
-ruleClass rights k place = tagOf (mixed rights place k) * buckets + spread (mixed rights place k) access-rule
+-- A rule is looked up by its rights number and its location; everywhere is location 0 of kind 0. They are spread over the classes as others are over
+-- the buckets: a class is its bucket, with two bits more, which are its tag.
+unfoldable pub ruleClass : ℕ → ℕ → ℕ → ℕ
+ruleClass rights k place = (mixed rights place k / 262144 + access-rule * 204 * tags) % rule-classes
 
 unfoldable pub classOfRule : List ℕ → ℕ
 classOfRule s =
@@ -66,7 +63,7 @@ classOfRule s =
 
 -- A factor is looked up by its format and value, and one that confirms by its credential too.
 abbrev pub factorBucket : ℕ → ℕ → ℕ → ℕ → ℕ
-factorBucket form high low owner = spread (mixed low high owner) (form + authentication-factor)
+factorBucket form high low owner = spread low high owner (form + authentication-factor)
 
 unfoldable pub owner : List ℕ → ℕ
 owner s = if eqb (role s) role-identifying then 0 else instance s
@@ -74,7 +71,7 @@ owner s = if eqb (role s) role-identifying then 0 else instance s
 unfoldable pub bucketOf : List ℕ → ℕ
 bucketOf s =
     if eqb (kind s) authentication-factor then factorBucket (format s) (field 16 4 s) (field 20 4 s) (owner s)
-    else if eqb (kind s) access-rule then classOfRule s % buckets
+    else if eqb (kind s) access-rule then classOfRule s / tags
     else objectBucket (kind s) (instance s)
 
 -- The number of the first record of a class, such as a bucket or a kind, the first of the list counted as `from`; the number past the last where
@@ -93,7 +90,7 @@ inClass c s = eqb (kind s) access-rule && eqb (classOfRule s) c
 
 -- The bit of a rule's tag; other records have none.
 unfoldable pub markOf : List ℕ → ℕ
-markOf s = if eqb (kind s) access-rule then 2 ^ (classOfRule s / buckets) else 0
+markOf s = if eqb (kind s) access-rule then 2 ^ (classOfRule s % tags) else 0
 
 -- Where a record goes: its bucket and its mark, each within its bounds.
 pub record Slotted (s : List ℕ) (slot : Slot) : Type 0 where

@@ -29,11 +29,13 @@ const KIND_CLASSES: usize = 8;
 
 pub const INDEX_SIZE: usize = 3040;
 
-// What the tags of a link or a head are multiples of: a record's number, or the number of records, is below it. A tag is one of five, a bit each of the
-// sixteen.
+// What the tags of a link or a head are multiples of: a record's number, or the number of records, is below it.
 const CHAIN_SCALE: u16 = 2048;
 
-const TAGS: usize = 5;
+// The tags, a bit each above the record's number; classes of rules, each of a bucket and a tag.
+pub const TAGS: usize = 4;
+
+const RULE_CLASSES: usize = 4096;
 
 // What an index holds before it is built. Its two bytes differ: a fill with equal bytes becomes a call of memset, and so of another library.
 pub const UNBUILT: u16 = 2000;
@@ -53,8 +55,8 @@ const SPREAD_SCALE: usize = 1048576;
 
 const SPREAD_TURN: usize = 204;
 
-// Of the bits below those that choose a bucket, the upper ten choose a tag.
-const TAG_SCALE: usize = 1024;
+// A class is chosen by two bits more than a bucket.
+const CLASS_SCALE: usize = 262144;
 
 // Where a record goes: its bucket, and the bit of its tag, where it is a rule.
 pub struct Slot {
@@ -82,31 +84,25 @@ fn mixed(a: u32, b: u32, c: u32) -> usize
     (a as usize) * SPREAD_FIRST + (b as usize) * SPREAD_SECOND + (c as usize) * SPREAD_THIRD
 }
 
-fn spread(sum: usize, turn: u16) -> usize
-    ensures { λ r. ⌜ (r ≡ Index.spread sum turn) × (r < buckets) ⌝ }
+fn spread(a: u32, b: u32, c: u32, turn: u16) -> usize
+    ensures { λ r. ⌜ (r ≡ Index.spread a b c turn) × (r < buckets) ⌝ }
 {
-    (sum / SPREAD_SCALE + (turn as usize) * SPREAD_TURN) % BUCKETS
-}
-
-fn tag_of(sum: usize) -> usize
-    ensures { λ r. ⌜ (r ≡ Index.tagOf sum) × (r < tags) ⌝ }
-{
-    sum / TAG_SCALE % TAG_SCALE * TAGS / TAG_SCALE
+    (mixed(a, b, c) / SPREAD_SCALE + (turn as usize) * SPREAD_TURN) % BUCKETS
 }
 
 // The bucket of a zone, a point or a credential.
 pub fn object_bucket(kind: u8, instance: u32) -> usize
     ensures { λ r. ⌜ (r ≡ objectBucket kind instance) × (r < buckets) ⌝ }
 {
-    spread(mixed(instance, 0, 0), kind as u16)
+    spread(instance, 0, 0, kind as u16)
 }
 
-// The class of the rules of a rights number at a location, of a bucket and a tag; everywhere is location 0 of kind 0.
+// The class of the rules of a rights number at a location; everywhere is location 0 of kind 0.
 pub fn rule_class(rights: u32, kind: u8, location: u32) -> usize
     ensures { λ r. ⌜ (r ≡ ruleClass rights kind location) × (r < rule-classes) ⌝ }
 {
-    let sum = mixed(rights, location, kind as u32);
-    tag_of(sum) * BUCKETS + spread(sum, ACCESS_RULE as u16)
+    let turn = (ACCESS_RULE as usize) * SPREAD_TURN * TAGS;
+    (mixed(rights, location, kind as u32) / CLASS_SCALE + turn) % RULE_CLASSES
 }
 
 // The bucket of the factors of a format, of the value at an offset and, where they confirm, of a credential.
@@ -116,8 +112,12 @@ fn factor_bucket(format: u8, part: &[u8], at: usize, owner: u32) -> usize
 {
     let words = octets::get_u64(part, at);
     let turn = (format as u16) + (AUTHENTICATION_FACTOR as u16);
-    let sum = mixed((words % MODULUS) as u32, (words / MODULUS) as u32, owner);
-    spread(sum, turn)
+    spread(
+        (words % MODULUS) as u32,
+        (words / MODULUS) as u32,
+        owner,
+        turn,
+    )
 }
 
 // The same of a value by itself.
@@ -156,8 +156,8 @@ fn slot_of(part: &[u8]) -> Slot
     if kind == ACCESS_RULE {
         let class = class_of_rule(part);
         return Slot {
-            bucket: class % BUCKETS,
-            mark: (1 as u16) << (class / BUCKETS),
+            bucket: class / TAGS,
+            mark: (1 as u16) << (class % TAGS),
         };
     }
     if kind == AUTHENTICATION_FACTOR {
@@ -260,10 +260,9 @@ pub fn record_of(chain: u16) -> usize
 
 // Whether a chain may hold a rule of the class: one of its tag is in it.
 pub fn may_hold(chain: u16, class: usize) -> bool
-    requires { ⌜ class < rule-classes ⌝ }
-    ensures { λ r. ⌜ r ≡ bit (chain / chain-scale) (class / buckets) ⌝ }
+    ensures { λ r. ⌜ r ≡ bit (chain / chain-scale) (class % tags) ⌝ }
 {
-    ((chain / CHAIN_SCALE) >> (class / BUCKETS)) % 2 == 1
+    ((chain / CHAIN_SCALE) >> (class % TAGS)) % 2 == 1
 }
 
 // The first record of a bucket.

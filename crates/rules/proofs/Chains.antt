@@ -13,7 +13,7 @@ use Rattle.model.specs.Site.{kind}
 use Rattle.model.specs.Checks.{verdict}
 use Rattle.model.specs.declared.Verdict.{Verdict}
 use Rattle.model.proofs.Laws.{and-left, and-right}
-use Rattle.index.specs.Index.{buckets, chain-scale, rule-classes, classOfRule, bucketOf, inClass, recordOf, nextIn, head, link, IndexedFrom}
+use Rattle.index.specs.Index.{buckets, chain-scale, tags, rule-classes, classOfRule, bucketOf, inClass, recordOf, nextIn, head, link, IndexedFrom}
 use Rattle.index.proofs.Tags.{some-left, none-left}
 use Rattle.index.proofs.Walks.{Chain, left-turn, left-end, onward, head-record, head-chain, link-record, link-chain}
 use Rattle.rules.specs.declared.Asked.{Asked}
@@ -26,7 +26,7 @@ carried a c v rest k ss = both v (both (findings a (keep (inClass c) ss)) rest)
 
 -- A walk for the rules of a class from one verdict on: what it found, and the chain that is left.
 pub record Walk (a : Asked) (c : ℕ) (ss : List (List ℕ)) (from v : Verdict) (chain : ℕ) : Type 0 where
-  pub at : Chain (c % buckets) ss chain
+  pub at : Chain (c / tags) ss chain
   pub left : (rest : Verdict) → carried a c from rest 0 ss ≡ findings a ss → carried a c v rest (recordOf chain) (drop (recordOf chain) ss) ≡ findings a ss
 
 module _ (a : Asked) (c : ℕ) (ss : List (List ℕ)) where
@@ -34,7 +34,7 @@ module _ (a : Asked) (c : ℕ) (ss : List (List ℕ)) where
   passes v rest k s ts h = rw h
 
   -- A rule of the class is in its bucket.
-  has : (s : List ℕ) → inClass c s ≡ true → bucketOf s ≡ c % buckets
+  has : (s : List ℕ) → inClass c s ≡ true → bucketOf s ≡ c / tags
   unfolding bucketOf
   has s h =
       let k = and-left (eqb (kind s) access-rule) (eqb (classOfRule s) c) h in
@@ -59,32 +59,32 @@ module _ (a : Asked) (c : ℕ) (ss : List (List ℕ)) where
       go false p = rw (both-comm v one, both-assoc one, p) (found-at a ss i h)
 
   module _ (index : List ℕ) (x : IndexedFrom 0 ss index) where
-    pub walk-start : (v : Verdict) {chain : ℕ} → chain ≡ head (c % buckets) index → Walk a c ss v v chain
-    walk-start v e =
-        let l : c % buckets < buckets = omega arith in
+    pub walk-start : (v : Verdict) {chain : ℕ} → c < rule-classes → chain ≡ head (c / tags) index → Walk a c ss v v chain
+    walk-start v h e =
+        let l : c / tags < buckets = omega arith in
         rw e (record {
-          at = head-chain 0 ss index x (c % buckets) l;
-          left = λ rest p. rw (head-record 0 ss index x (c % buckets) l) (onward (carried a c v rest) (inClass c) (passes v rest) ss bucketOf (c % buckets) has 0 p);
+          at = head-chain 0 ss index x (c / tags) l;
+          left = λ rest p. rw (head-record 0 ss index x (c / tags) l) (onward (carried a c v rest) (inClass c) (passes v rest) ss bucketOf (c / tags) has 0 p);
         })
 
     pub walk-turn : {from u v : Verdict} {chain : ℕ} (next : ℕ) → Walk a c ss from v chain → recordOf chain < length ss
         → u ≡ both v (findings a (getD ss (recordOf chain) [] ∷ [])) → next ≡ link (recordOf chain) index → Walk a c ss from u next
     walk-turn {from} {u} {v} {chain} next y h t e =
         let i = recordOf chain in
-        let b : bucketOf (getD ss i []) ≡ c % buckets = y .at .here h in
-        let r : recordOf (link i index) ≡ nextIn bucketOf (c % buckets) (i + 1) ss = rw b at (link-record 0 ss index x i (omega arith) h) in
+        let b : bucketOf (getD ss i []) ≡ c / tags = y .at .here h in
+        let r : recordOf (link i index) ≡ nextIn bucketOf (c / tags) (i + 1) ss = rw b at (link-record 0 ss index x i (omega arith) h) in
         rw e (record {
           at = rw b at (link-chain 0 ss index x i (omega arith) h);
-          left = λ rest p. rw r (onward (carried a c u rest) (inClass c) (passes u rest) ss bucketOf (c % buckets) has (i + 1) (adds v rest i h t (y .left rest p)));
+          left = λ rest p. rw r (onward (carried a c u rest) (inClass c) (passes u rest) ss bucketOf (c / tags) has (i + 1) (adds v rest i h t (y .left rest p)));
         })
 
   -- As long as the chain may hold a rule of the class, a record is left; then none of the class is.
   module _ {from v : Verdict} {chain : ℕ} (y : Walk a c ss from v chain) where
-    pub walk-goes-on : bit (chain / chain-scale) (c / buckets) ≡ true → recordOf chain < length ss
+    pub walk-goes-on : bit (chain / chain-scale) (c % tags) ≡ true → recordOf chain < length ss
     walk-goes-on e =
-        omega (arith, length-drop (recordOf chain) ss, some-left (c % buckets) (c / buckets) (drop (recordOf chain) ss) (rw (y .at .tagged) at e))
+        omega (arith, length-drop (recordOf chain) ss, some-left (c / tags) (c % tags) (drop (recordOf chain) ss) (rw (y .at .tagged) at e))
 
-    pub walk-end : bit (chain / chain-scale) (c / buckets) ≡ false → Gains a (inClass c) ss from v
+    pub walk-end : bit (chain / chain-scale) (c % tags) ≡ false → Gains a (inClass c) ss from v
     unfolding both verdict
     walk-end e rest p = rw (none-left c (drop (recordOf chain) ss) (rw (y .at .tagged) at e)) at (y .left rest p)
 

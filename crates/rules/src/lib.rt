@@ -134,7 +134,7 @@ fn with_class(site: &[u8], index: &[u16], found: Verdict, class: usize, a: Asked
 {
     let mut v = found;
     let mut links = 0;
-    let mut chain = index::head_of(index, class % index::BUCKETS);
+    let mut chain = index::head_of(index, class / index::TAGS);
     while index::may_hold(chain, class) {
         if links == LONG_CHAIN {
             return Walked {

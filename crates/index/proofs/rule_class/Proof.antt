@@ -1,17 +1,15 @@
--- The tag and the bucket, each by the sum.
+-- The definition's own sum and remainder.
 use native.Mathlib.Omega.{arith}
 use borrow.Author.Needs.{needs}
+use Rattle.index.specs.Index.{ruleClass}
 use Rattle.index.proofs.rule_class.Statement.{statement}
 use Rattle.index.proofs.rule_class.Tie as tie
 
 returns : tie.Need-returns
-returns c =
-    let t = c .before .tag-of in
-    (rw (← c .before .before .mixed .ensures, c .spread .ensures .0, t .ensures .0), omega (arith, c .spread .ensures .1, t .ensures .1))
+unfolding ruleClass
+returns c = (rw (c .mixed .ensures), omega arith)
 
 pub rule-class-spec : {M : Type 1} → statement M
 rule-class-spec =
     tie.close
-    (tie.spec
-    (λ c κs. search needs) (λ c κs. search needs) (λ c. search needs) (λ c. search needs) (λ c κs. search needs) (λ c. search needs)
-    returns)
+    (tie.spec (λ c. search needs) (λ c. search needs) (λ c. search needs) (λ c κs. search needs) (λ c. search needs) returns)

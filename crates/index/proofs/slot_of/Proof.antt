@@ -5,7 +5,7 @@ use native.Mathlib.Omega.{arith}
 use borrow.Author.Needs.{needs}
 use borrow.Author.Tests.{eq-eqb, ne-eqb}
 use lib.Pow.{pow-lt}
-use Rattle.index.specs.Index.{buckets, bucketOf, markOf}
+use Rattle.index.specs.Index.{tags, bucketOf, markOf}
 use Rattle.index.proofs.slot_of.Statement.{statement}
 use Rattle.index.proofs.slot_of.Tie as tie
 
@@ -15,10 +15,10 @@ returns c =
     let k = c .before .before .get-u8 .ensures in
     let is = c .before .if1 .taken in
     let r = c .class-of-rule in
-    let t = r .result / buckets in
-    let l : 2 ^ t < 32 = pow-lt {i = t} {j = 5} (omega (arith, r .ensures .1)) in
+    let t = r .result % tags in
+    let l : 2 ^ t < 32 = pow-lt {i = t} {j = 5} (omega arith) in
     let e : 1 * 2 ^ t % 65536 ≡ 2 ^ t = omega arith in
-    record { bucket = rw (← k, is, ← r .ensures .0); within = omega arith; mark = rw (e, ← k, is, ← r .ensures .0); small = omega arith }
+    record { bucket = rw (← k, is, ← r .ensures .0); within = omega (arith, r .ensures .1); mark = rw (e, ← k, is, ← r .ensures .0); small = omega arith }
 
 returns-2 : tie.Need-returns-2
 unfolding bucketOf markOf

@@ -1,5 +1,4 @@
 -- The definition's own sum and remainder.
-use mathlib.Core.Path.{refl}
 use native.Mathlib.Omega.{arith}
 use borrow.Author.Needs.{needs}
 use Rattle.index.specs.Index.{spread}
@@ -8,7 +7,7 @@ use Rattle.index.proofs.spread.Tie as tie
 
 returns : tie.Need-returns
 unfolding spread
-returns c = (refl, omega arith)
+returns c = (rw (c .mixed .ensures), omega arith)
 
 pub spread-spec : {M : Type 1} → statement M
-spread-spec = tie.close (tie.spec (λ c. search needs) (λ c. search needs) returns)
+spread-spec = tie.close (tie.spec (λ c κs. search needs) (λ c. search needs) (λ c. search needs) returns)

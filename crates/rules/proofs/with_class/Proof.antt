@@ -24,7 +24,7 @@ loop-holds : tie.Need-loop-holds Inv-loop μ-loop
 loop-holds c =
     let s = c .before .before .before in
     let a = s .args in
-    (omega arith, walk-start (a .a) (a .class) (records (now (a .site))) (now (a .index)) (s .pre .0) (a .found) (c .head-of .ensures))
+    (omega arith, walk-start (a .a) (a .class) (records (now (a .site))) (now (a .index)) (s .pre .0) (a .found) (s .pre .1) (c .head-of .ensures))
 
 -- In a turn the chain's first record is one of the site.
 in-site : (c : tie.After-record-of Inv-loop μ-loop) → c .record-of .result < length (records (now (c .before .before .before .before .before .before .before .before .args .site)))
@@ -66,9 +66,9 @@ with-class-spec =
     (tie.spec
     Inv-loop
     μ-loop
-    (λ c κs. (c .before .before .pre .0 .size, omega arith))
+    (λ c κs. (c .before .before .pre .0 .size, omega (arith, c .before .before .pre .1)))
     loop-holds
-    (λ c κs. c .before .before .before .before .pre .1)
+    (λ c κs. tt)
     (λ c e. absurd (false≢true e))
     (λ c κs. search needs)
     (λ c κs. in-site c)
