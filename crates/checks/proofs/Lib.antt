@@ -1,1 +1,3 @@
-pub mod Unasked
+pub mod Steps
+pub mod Moves
+pub mod Room

@@ -1,38 +1,18 @@
 // Steps 1 to 4: lockout, factor timeout, factor, second factor.
 ghost use mathlib.Core.Path.{_≡_};
-ghost use Rattle.model.specs.Checks.{relinquished, stillLocked, waiting, overdue, disabledFactor, firstOfTwo, authenticationOf, authentication};
-use crate::words::choose_short;
-use crate::words::elapsed;
-use crate::words::short;
+ghost use Rattle.model.specs.Checks.{overdue, disabledFactor, firstOfTwo, authenticationOf, authentication};
+use conditions::is_still_locked;
+use conditions::is_waiting;
+use conditions::words::choose_short;
+use conditions::words::elapsed;
+use conditions::words::short;
 use model::Authentication;
 use model::Entry;
-use model::View;
+use model::Situation;
 use model::numbers;
 
-// Step 1 unlocks the point: a set relinquish time has passed.
-pub fn is_relinquished(v: View, e: Entry) -> bool
-    ensures { λ r. ⌜ r ≡ relinquished v e ⌝ }
-{
-    v.point_state.locked
-        & (v.point.lockout_relinquish != 0)
-        & (v.point.lockout_relinquish <= elapsed(e.time, v.point_state.lock_time))
-}
-
-pub fn is_still_locked(v: View, e: Entry) -> bool
-    ensures { λ r. ⌜ r ≡ stillLocked v e ⌝ }
-{
-    v.point_state.locked & !is_relinquished(v, e)
-}
-
-// The point waits for a second factor.
-pub fn is_waiting(v: View) -> bool
-    ensures { λ r. ⌜ r ≡ waiting v ⌝ }
-{
-    v.point_state.waiting_credential != numbers::NONE
-}
-
 // The second factor comes later than a set timeout.
-pub fn is_overdue(v: View, e: Entry) -> bool
+pub fn is_overdue(v: Situation, e: Entry) -> bool
     ensures { λ r. ⌜ r ≡ overdue v e ⌝ }
 {
     is_waiting(v)
@@ -64,14 +44,14 @@ pub fn disabled_factor(d: u8) -> u16
 }
 
 // The factor is the first of the two that the point wants.
-pub fn is_first_of_two(v: View) -> bool
+pub fn is_first_of_two(v: Situation) -> bool
     ensures { λ r. ⌜ r ≡ firstOfTwo v ⌝ }
 {
     !is_waiting(v) & (v.point.factors_wanted == numbers::TWO_FACTORS)
 }
 
 // What steps 1 to 4 find.
-pub fn authentication_of(v: View, e: Entry) -> Authentication
+pub fn authentication_of(v: Situation, e: Entry) -> Authentication
     ensures { λ r. ⌜ r ≡ authenticationOf v e ⌝ }
 {
     Authentication {

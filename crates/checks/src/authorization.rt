@@ -1,36 +1,17 @@
-// Steps 7 to 12: mode, threat level, rules, passback, limits, grant.
+// Steps 6 to 11: master exemption, mode, threat level, rules, passback, limits, a count that is full.
 ghost use mathlib.Core.Path.{_≡_};
-ghost use Rattle.model.specs.Checks.{intoZone, passbackViolated, atLowerLimit, atUpperLimit, authorizationOf, authorization, passage};
-use crate::words::choose_short;
-use crate::words::elapsed;
-use crate::words::has_reached;
-use crate::words::of_minutes;
-use crate::words::wide;
+ghost use Rattle.model.specs.Checks.{atLowerLimit, atUpperLimit, authorizationOf, authorization, passage, permission};
+use conditions::is_into_zone;
+use conditions::is_passback_violated;
+use conditions::words::choose_short;
+use conditions::words::has_reached;
 use model::Authorization;
 use model::Entry;
+use model::Situation;
 use model::Verdict;
-use model::View;
 use model::numbers;
 
-pub fn is_into_zone(v: View) -> bool
-    ensures { λ r. ⌜ r ≡ intoZone v ⌝ }
-{
-    v.point.zone_to != numbers::NONE
-}
-
-// The credential is in Zone_To already, and has not been there for a set timeout.
-pub fn is_passback_violated(v: View, e: Entry) -> bool
-    ensures { λ r. ⌜ r ≡ passbackViolated v e ⌝ }
-{
-    !v.credential.passback_exempt
-        & is_into_zone(v)
-        & (v.credential_state.zone == v.point.zone_to)
-        & ((v.zone_to.passback_timeout == 0)
-            | (wide(elapsed(e.time, v.credential_state.entered))
-                < of_minutes(v.zone_to.passback_timeout)))
-}
-
-pub fn is_at_lower_limit(v: View) -> bool
+pub fn is_at_lower_limit(v: Situation) -> bool
     ensures { λ r. ⌜ r ≡ atLowerLimit v ⌝ }
 {
     !v.credential.occupancy_exempt
@@ -40,7 +21,7 @@ pub fn is_at_lower_limit(v: View) -> bool
         & (v.count_from <= v.zone_from.lower_limit)
 }
 
-pub fn is_at_upper_limit(v: View) -> bool
+pub fn is_at_upper_limit(v: Situation) -> bool
     ensures { λ r. ⌜ r ≡ atUpperLimit v ⌝ }
 {
     !v.credential.occupancy_exempt
@@ -51,7 +32,7 @@ pub fn is_at_upper_limit(v: View) -> bool
 }
 
 // What steps 7 to 10 find, with what the rules say.
-pub fn authorization_of(v: View, rules: Verdict, e: Entry) -> Authorization
+pub fn authorization_of(v: Situation, rules: Verdict, e: Entry) -> Authorization
     ensures { λ r. ⌜ r ≡ authorizationOf v rules e ⌝ }
 {
     Authorization {
@@ -101,13 +82,24 @@ pub fn authorize(k: Authorization, next: u16) -> u16
     next
 }
 
-// Steps 11 and 12: a count that is full, or the grant.
-pub fn passage_of(v: View) -> u16
-    ensures { λ r. ⌜ r ≡ passage v ⌝ }
+// Step 11: a count that is full.
+pub fn passage_of(v: Situation, next: u16) -> u16
+    ensures { λ r. ⌜ r ≡ passage v next ⌝ }
 {
     choose_short(
         v.point.count_adjust & v.zone_to.counting & (v.count_to == numbers::LARGEST_COUNT),
         numbers::DENIED_OTHER,
-        numbers::GRANTED,
+        next,
     )
+}
+
+// Steps 6 to 11: a master exemption skips to step 11.
+pub fn permit(v: Situation, rules: Verdict, e: Entry, next: u16) -> u16
+    ensures { λ r. ⌜ r ≡ permission v rules e next ⌝ }
+{
+    let last = passage_of(v, next);
+    if v.credential.master {
+        return last;
+    }
+    authorize(authorization_of(v, rules, e), last)
 }

@@ -1,12 +1,14 @@
 // Step 5: the credential's dates, disable, uses and last use.
 ghost use mathlib.Core.Path.{_≡_};
 ghost use Rattle.model.specs.Checks.{inactive, validityOf, validity};
-use crate::words::elapsed;
-use crate::words::of_days;
-use crate::words::wide;
+ghost use Rattle.checks.specs.Moves.{validityEvent};
+use crate::NEXT;
+use conditions::words::elapsed;
+use conditions::words::of_days;
+use conditions::words::wide;
 use model::Entry;
+use model::Situation;
 use model::Validity;
-use model::View;
 use model::numbers;
 
 // Used before, and longer ago than the absentee days.
@@ -19,7 +21,7 @@ pub fn is_inactive(last: u32, days: u16, time: u32) -> bool
 }
 
 // What step 5 finds.
-pub fn validity_of(v: View, e: Entry) -> Validity
+pub fn validity_of(v: Situation, e: Entry) -> Validity
     ensures { λ r. ⌜ r ≡ validityOf v e ⌝ }
 {
     Validity {
@@ -67,4 +69,11 @@ pub fn validate(k: Validity, next: u16) -> u16
         return numbers::DENIED_CREDENTIAL_INACTIVITY;
     }
     next
+}
+
+// Step 5 by itself, or NEXT: what comes first for an operation that reads no factor.
+pub fn validity_event(v: Situation, e: Entry) -> u16
+    ensures { λ r. ⌜ r ≡ validityEvent v e ⌝ }
+{
+    validate(validity_of(v, e), NEXT)
 }
