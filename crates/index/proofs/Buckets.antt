@@ -2,17 +2,19 @@
 use Prim.Native.Nat.{ℕ, _+_}
 use mathlib.Core.Path.{_≡_, refl, sym, ap, _∙_}
 use mathlib.Core.List.{List}
-use mathlib.Core.Bool.{Bool, true, false, _&&_, _||_}
+use mathlib.Core.Bool.{Bool, true, false, false≢true, _&&_, _||_}
 use native.Mathlib.Omega.{arith}
 use lib.Dec.{eqb}
 use borrow.Author.Tests.{eqb-true, ne-eqb}
 use Rattle.octets.specs.Octets.{field, same}
 use Rattle.octets.proofs.Laws.{field-part, same-eq, same-refl}
 use Rattle.model.specs.Words.{if_then_else_}
-use Rattle.model.specs.Numbers.{access-rule, authentication-factor, role-identifying, role-confirming}
-use Rattle.model.specs.Site.{kind, instance, role, format, value, isAt}
+use Rattle.model.specs.Numbers.{access-zone, access-point, access-rule, access-credential, authentication-factor, role-identifying, role-confirming}
+use Rattle.model.specs.Site.{kind, recordKind, instance, role, format, value, isAt}
 use Rattle.model.specs.Checks.{presents, identifying, confirming}
-use Rattle.model.specs.Accept.{twinFactors, twins}
+use Rattle.model.specs.Accept.{twinFactors, twinsAs, twins}
+use Rattle.model.specs.declared.CredentialId.{CredentialId}
+use Rattle.model.specs.declared.RecordKind.the-variants.{OfZone, OfPoint, OfCredential, OfUnknown}
 use Rattle.model.proofs.Laws.{and-left, and-right}
 use Rattle.index.specs.Index.{ByInstance, objectBucket, factorBucket, owner, bucketOf}
 
@@ -48,16 +50,16 @@ identifying-bucket form read s e =
     factor-bucket form read 0 s (and-left (eqb (kind s) authentication-factor) (i && presents form read s) e) (and-right i (presents form read s) r)
     (rw (and-left i (presents form read s) r))
 
-pub confirming-bucket : (c form : ℕ) (read : List ℕ) (s : List ℕ) → confirming c form read s ≡ true
-    → bucketOf s ≡ factorBucket form (field 0 4 read) (field 4 4 read) c
+pub confirming-bucket : (c : CredentialId) (form : ℕ) (read : List ℕ) (s : List ℕ) → confirming c form read s ≡ true
+    → bucketOf s ≡ factorBucket form (field 0 4 read) (field 4 4 read) (c .0)
 unfolding confirming owner
 confirming-bucket c form read s e =
     let i = eqb (role s) role-confirming in
-    let a = and-left (isAt authentication-factor c s) (i && presents form read s) e in
-    let r = and-right (isAt authentication-factor c s) (i && presents form read s) e in
+    let a = and-left (isAt authentication-factor (c .0) s) (i && presents form read s) e in
+    let r = and-right (isAt authentication-factor (c .0) s) (i && presents form read s) e in
     let o : role s ≡ role-confirming = eqb-true (role s) role-confirming (and-left i (presents form read s) r) in
-    let n : instance s ≡ c = eqb-true (instance s) c (and-right (eqb (kind s) authentication-factor) (eqb (instance s) c) a) in
-    factor-bucket form read c s (and-left (eqb (kind s) authentication-factor) (eqb (instance s) c) a) (and-right i (presents form read s) r)
+    let n : instance s ≡ c .0 = eqb-true (instance s) (c .0) (and-right (eqb (kind s) authentication-factor) (eqb (instance s) (c .0)) a) in
+    factor-bucket form read (c .0) s (and-left (eqb (kind s) authentication-factor) (eqb (instance s) (c .0)) a) (and-right i (presents form read s) r)
     (rw (o, n))
 
 -- Twins share a bucket.
@@ -93,19 +95,24 @@ twin-factors s t k e =
 
 pub twins-bucket : (s t : List ℕ) → twins s t ≡ true → bucketOf t ≡ bucketOf s
 unfolding twins bucketOf
-twins-bucket s t e = sym (go (eqb (kind s) authentication-factor) refl (eqb (kind s) access-rule) refl (and-right same-kind rest e))
+twins-bucket s t e = sym (go (eqb (kind s) authentication-factor) refl (eqb (kind s) access-rule) refl (and-right (eqb (kind s) (kind t)) alike-as e))
   where
-    same-kind : Bool
-    same-kind = eqb (kind s) (kind t)
-
-    rest : Bool
-    rest = if eqb (kind s) access-rule then false else if eqb (kind s) authentication-factor then twinFactors s t else eqb (instance s) (instance t)
+    alike-as : Bool
+    alike-as = twinsAs (recordKind s) s t
 
     alike : kind s ≡ kind t
-    alike = eqb-true (kind s) (kind t) (and-left same-kind rest e)
+    alike = eqb-true (kind s) (kind t) (and-left (eqb (kind s) (kind t)) alike-as e)
 
-    go : (c : Bool) → eqb (kind s) authentication-factor ≡ c → (d : Bool) → eqb (kind s) access-rule ≡ d →
-        if d then false else if c then twinFactors s t else eqb (instance s) (instance t) ≡ true → bucketOf s ≡ bucketOf t
-    go c p true q h = cc
-    go true p false q h = rw p (sym (twin-factors s t (rw (← alike) p) h))
-    go false p false q h = rw (p, q, ← alike, p, q, eqb-true (instance s) (instance t) h)
+    -- Neither a rule nor a factor, whatever it is of the others.
+    object : (z p c : Bool) → twinsAs (if z then OfZone else if p then OfPoint else if c then OfCredential else OfUnknown) s t ≡ eqb (instance s) (instance t)
+    object true p c = refl
+    object false true c = refl
+    object false false true = refl
+    object false false false = refl
+
+    go : (c : Bool) → eqb (kind s) authentication-factor ≡ c → (d : Bool) → eqb (kind s) access-rule ≡ d → alike-as ≡ true → bucketOf s ≡ bucketOf t
+    go c p true q h = absurd (false≢true (rw (eqb-true (kind s) access-rule q) at h))
+    go true p false q h = rw p (sym (twin-factors s t (rw (← alike) p) (rw (eqb-true (kind s) authentication-factor p) at h)))
+    go false p false q h =
+        let o = object (eqb (kind s) access-zone) (eqb (kind s) access-point) (eqb (kind s) access-credential) in
+        rw (p, q, ← alike, p, q, eqb-true (instance s) (instance t) (sym o ∙ rw (p, q) at h))

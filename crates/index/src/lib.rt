@@ -14,10 +14,18 @@ ghost use Rattle.model.specs.Site as Site;
 ghost use Rattle.model.specs.Site.{records};
 ghost use Rattle.index.specs.Index as Index;
 ghost use Rattle.index.specs.Index.{most-records, buckets, kind-classes, index-size, chain-scale, tags, rule-classes, kindHead, kindLast, objectBucket, ruleClass, factorBucket, Slotted, recordOf, nextIn, IndexedFrom};
+use model::layout::FACTOR_VALUE;
 use model::numbers::ACCESS_RULE;
 use model::numbers::AUTHENTICATION_FACTOR;
 use model::numbers::MODULUS;
 use model::numbers::ROLE_IDENTIFYING;
+use records::site::format_of;
+use records::site::instance_of;
+use records::site::is_everywhere;
+use records::site::kind_of;
+use records::site::location_kind_of;
+use records::site::location_of;
+use records::site::role_of;
 
 // The most records of a site, whose links come first; the buckets, whose heads follow; the classes of kinds, whose heads and
 // last records come last.
@@ -131,28 +139,28 @@ fn owner_of(part: &[u8]) -> u32
     requires { ⌜ length (now part) ≡ 32 ⌝ }
     ensures { λ r. ⌜ r ≡ Index.owner (now (part .entry)) ⌝ }
 {
-    if octets::get_u8(part, 2) == ROLE_IDENTIFYING {
+    if role_of(part) == ROLE_IDENTIFYING {
         return 0;
     }
-    octets::get_u32(part, 4)
+    instance_of(part)
 }
 
 fn class_of_rule(part: &[u8]) -> usize
     requires { ⌜ length (now part) ≡ 32 ⌝ }
     ensures { λ r. ⌜ (r ≡ Index.classOfRule (now (part .entry))) × (r < rule-classes) ⌝ }
 {
-    let rights = octets::get_u32(part, 4);
-    if records::flag_of(part, 3) {
+    let rights = instance_of(part);
+    if is_everywhere(part) {
         return rule_class(rights, 0, 0);
     }
-    rule_class(rights, octets::get_u8(part, 2), octets::get_u32(part, 8))
+    rule_class(rights, location_kind_of(part), location_of(part))
 }
 
 fn slot_of(part: &[u8]) -> Slot
     requires { ⌜ length (now part) ≡ 32 ⌝ }
     ensures { λ r. ⌜ Slotted (now (part .entry)) r ⌝ }
 {
-    let kind = octets::get_u8(part, 0);
+    let kind = kind_of(part);
     if kind == ACCESS_RULE {
         let class = class_of_rule(part);
         return Slot {
@@ -162,12 +170,12 @@ fn slot_of(part: &[u8]) -> Slot
     }
     if kind == AUTHENTICATION_FACTOR {
         return Slot {
-            bucket: factor_bucket(octets::get_u8(part, 8), part, 16, owner_of(part)),
+            bucket: factor_bucket(format_of(part), part, FACTOR_VALUE, owner_of(part)),
             mark: 0,
         };
     }
     Slot {
-        bucket: object_bucket(kind, octets::get_u32(part, 4)),
+        bucket: object_bucket(kind, instance_of(part)),
         mark: 0,
     }
 }
@@ -215,7 +223,7 @@ pub fn insert(site: &[u8], index: &mut [u16], i: usize)
     let part = record_at(site, i);
     let slot = slot_of(part);
     let head = MOST_RECORDS + slot.bucket;
-    let kind_head = MOST_RECORDS + BUCKETS + kind_class(octets::get_u8(part, 0));
+    let kind_head = MOST_RECORDS + BUCKETS + kind_class(kind_of(part));
     let kind_last = kind_head + KIND_CLASSES;
     let last = last_after(
         index[kind_head],
@@ -288,7 +296,7 @@ fn next_of_kind(site: &[u8], kind: u8, from: usize) -> usize
     let n = record_count(site);
     let mut i = from;
     while i < n {
-        if octets::get_u8(record_at(site, i), 0) == kind {
+        if kind_of(record_at(site, i)) == kind {
             return i;
         }
         i += 1;

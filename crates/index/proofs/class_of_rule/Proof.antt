@@ -9,18 +9,18 @@ returns : tie.Need-returns
 unfolding classOfRule
 returns c =
     let f = c .before .before in
-    (rw (← f .flag-of .ensures, c .before .if1 .taken, ← f .before .get-u32 .ensures) (c .rule-class .ensures .0), c .rule-class .ensures .1)
+    (rw (← f .is-everywhere .ensures, c .before .if1 .taken, ← f .before .instance-of .ensures) (c .rule-class .ensures .0), c .rule-class .ensures .1)
 
 returns-2 : tie.Need-returns-2
 unfolding classOfRule
 returns-2 c =
     let f = c .before .before .before .before in (
       rw (
-        ← f .flag-of .ensures,
+        ← f .is-everywhere .ensures,
         c .before .before .before .if1 .left,
-        ← f .before .get-u32 .ensures,
-        ← c .before .before .get-u8 .ensures,
-        ← c .before .get-u322 .ensures,
+        ← f .before .instance-of .ensures,
+        ← c .before .before .location-kind-of .ensures,
+        ← c .before .location-of .ensures,
       ) (c .rule-class2 .ensures .0),
       c .rule-class2 .ensures .1,
     )

@@ -27,7 +27,7 @@ returns c =
     let z : most-records + buckets + kind-classes + k .kind-class .result ≡ most-records + buckets + k .kind-class .result + kind-classes = omega arith in
     let f = c .put-before .ensures ∙ ap (λ w. i + bitOr w (head (o .bucket) x / chain-scale) * chain-scale) (b .slot-of .ensures .mark ∙ ap markOf r) in
     inserted i (records (now (s .args .site))) x (s .pre .1) (o .bucket) (b .slot-of .ensures .bucket ∙ ap bucketOf r) (b .slot-of .ensures .within)
-    (k .kind-class .result) (k .kind-class .ensures .0 ∙ ap (λ w. w % kind-classes) (g .get-u8 .ensures) ∙ ap kindClass r) (k .kind-class .ensures .1) (s .pre .0)
+    (k .kind-class .result) (k .kind-class .ensures .0 ∙ ap (λ w. w % kind-classes) (g .kind-of .ensures) ∙ ap kindClass r) (k .kind-class .ensures .1) (s .pre .0)
     (c .put-before .result) f (l .result) (rw (← n, z) (l .ensures))
 
 pub insert-spec : {M : Type 1} → statement M

@@ -27,7 +27,7 @@ returns c =
     let a = l .before .before .before .args in
     let ss = records (now (a .site)) in
     let h : l .loop .i < length ss = omega arith in
-    rw (← l .loop .inv .1, next-turn kind (a .kind) (l .loop .i) ss h, ← c .before .before .record-at .ensures .0, ← c .before .get-u8 .ensures, eq-eqb _ _ (c .if1 .taken))
+    rw (← l .loop .inv .1, next-turn kind (a .kind) (l .loop .i) ss h, ← c .before .before .record-at .ensures .0, ← c .before .kind-of .ensures, eq-eqb _ _ (c .if1 .taken))
 
 loop-again : tie.Need-loop-again Inv-loop μ-loop
 loop-again c =
@@ -36,7 +36,7 @@ loop-again c =
     let ss = records (now (a .site)) in
     let h : l .loop .i < length ss = omega arith in
     let t = next-turn kind (a .kind) (l .loop .i) ss h in
-    (l .loop .inv .0, sym (rw (← c .before .before .record-at .ensures .0, ← c .before .get-u8 .ensures, ne-eqb _ _ (c .if1 .left)) at t) ∙ l .loop .inv .1)
+    (l .loop .inv .0, sym (rw (← c .before .before .record-at .ensures .0, ← c .before .kind-of .ensures, ne-eqb _ _ (c .if1 .left)) at t) ∙ l .loop .inv .1)
 
 returns-2 : tie.Need-returns-2 Inv-loop μ-loop
 returns-2 c =
@@ -53,7 +53,7 @@ next-of-kind-spec =
     (λ c κs. tt)
     loop-holds
     (λ c κs. search needs)
-    (λ c κs. omega (arith, c .record-at .ensures .1))
+    (λ c κs m. c .record-at .ensures .1)
     returns
     (λ c. search needs) (λ c. search needs)
     loop-again

@@ -12,7 +12,7 @@ use Rattle.index.proofs.slot_of.Tie as tie
 returns : tie.Need-returns
 unfolding bucketOf markOf
 returns c =
-    let k = c .before .before .get-u8 .ensures in
+    let k = c .before .before .kind-of .ensures in
     let is = c .before .if1 .taken in
     let r = c .class-of-rule in
     let t = r .result % tags in
@@ -24,9 +24,9 @@ returns-2 : tie.Need-returns-2
 unfolding bucketOf markOf
 returns-2 c =
     let d = c .before .before .before in
-    let k = d .before .before .get-u8 .ensures in
+    let k = d .before .before .kind-of .ensures in
     record {
-      bucket = rw (← k, d .if2 .taken, ← c .before .before .get-u82 .ensures, ← c .before .owner-of .ensures) (c .factor-bucket .ensures .0);
+      bucket = rw (← k, d .if2 .taken, ← c .before .before .format-of .ensures, ← c .before .owner-of .ensures) (c .factor-bucket .ensures .0);
       within = c .factor-bucket .ensures .1;
       mark = rw (← k, d .if2 .taken);
       small = omega arith;
@@ -36,10 +36,10 @@ returns-3 : tie.Need-returns-3
 unfolding bucketOf markOf
 returns-3 c =
     let d = c .before .before in
-    let k = d .before .before .get-u8 .ensures in
+    let k = d .before .before .kind-of .ensures in
     let rule = ne-eqb _ _ (d .before .if1 .left) in
     record {
-      bucket = rw (← k, ne-eqb _ _ (d .if2 .left), rule, ← c .before .get-u32 .ensures) (c .object-bucket .ensures .0);
+      bucket = rw (← k, ne-eqb _ _ (d .if2 .left), rule, ← c .before .instance-of .ensures) (c .object-bucket .ensures .0);
       within = c .object-bucket .ensures .1;
       mark = rw (← k, rule);
       small = omega arith;
