@@ -8,23 +8,24 @@ use borrow.Author.Tests.{eqb-true}
 use Rattle.model.specs.Numbers.{NONE, access-rule}
 use Rattle.model.specs.Site.{kind, instance, enabled}
 use Rattle.model.specs.Checks.{enabledRule, locationFits, verdict}
+use Rattle.model.specs.declared.RightsId.{RightsId}
 use Rattle.model.specs.declared.Verdict.{Verdict}
 use Rattle.rules.specs.declared.Asked.{Asked}
 use Rattle.rules.specs.Walk.{findings, both}
 
 -- A record of another kind is no rule.
-pub other-kind : (first second : ℕ) (s : List ℕ) → eqb (kind s) access-rule ≡ false → enabledRule first second s ≡ false
+pub other-kind : (first second : RightsId) (s : List ℕ) → eqb (kind s) access-rule ≡ false → enabledRule first second s ≡ false
 unfolding enabledRule
 other-kind first second s h = simp (h, and-false)
 
 -- A rule of another number is no rule of the rights.
-pub other-number : (first second : ℕ) (s : List ℕ) → not (eqb (instance s) first) && not (eqb (instance s) second) ≡ true
+pub other-number : (first second : RightsId) (s : List ℕ) → not (eqb (instance s) (first .0)) && not (eqb (instance s) (second .0)) ≡ true
     → enabledRule first second s ≡ false
 unfolding enabledRule
-other-number first second s h = go (eqb (instance s) first) (eqb (instance s) second) h
+other-number first second s h = go (eqb (instance s) (first .0)) (eqb (instance s) (second .0)) h
   where
     go : (a b : Bool) → not a && not b ≡ true
-        → (not (eqb first NONE) && (eqb (kind s) access-rule && a) || not (eqb second NONE) && (eqb (kind s) access-rule && b)) && enabled s ≡ false
+        → (not (eqb (first .0) NONE) && (eqb (kind s) access-rule && a) || not (eqb (second .0) NONE) && (eqb (kind s) access-rule && b)) && enabled s ≡ false
     go true b h = cc
     go false true h = cc
     go false false h = simp and-false

@@ -40,12 +40,12 @@ inSome cs s = any (λ c. inClass c s) cs
 -- The classes of what is asked: everywhere, at the point and at its Zone_To, of the one rights number and then of the other.
 abbrev pub ruleClasses : Asked → List ℕ
 ruleClasses a =
-    ruleClass (a .first) 0 0
-    ∷ ruleClass (a .first) access-point (a .point)
-    ∷ ruleClass (a .first) access-zone (a .to)
-    ∷ ruleClass (a .second) 0 0
-    ∷ ruleClass (a .second) access-point (a .point)
-    ∷ ruleClass (a .second) access-zone (a .to)
+    ruleClass (a .first .0) 0 0
+    ∷ ruleClass (a .first .0) access-point (a .point .0)
+    ∷ ruleClass (a .first .0) access-zone (a .to .0)
+    ∷ ruleClass (a .second .0) 0 0
+    ∷ ruleClass (a .second .0) access-point (a .point .0)
+    ∷ ruleClass (a .second .0) access-zone (a .to .0)
     ∷ []
 
 -- Each of a list is a class of rules.
@@ -55,4 +55,4 @@ Classes (c ∷ cs) = (c < rule-classes) × Classes cs
 
 -- How many of them are walked: those of the second rights number are not where it is the first again, or NONE.
 unfoldable pub classCount : Asked → ℕ
-classCount a = if eqb (a .second) (a .first) || eqb (a .second) NONE then 3 else 6
+classCount a = if eqb (a .second .0) (a .first .0) || eqb (a .second .0) NONE then 3 else 6

@@ -1,7 +1,10 @@
 // Step 9 of the order of checks: what the enabled rules of a credential's rights say at a point and a time.
 // Rules are found by the index of the site, and the fields of a rule are read out of its record, a 32-byte part of the lent site.
 
+use model::PointId;
+use model::RightsId;
 use model::Verdict;
+use model::ZoneId;
 use model::numbers::ACCESS_POINT;
 use model::numbers::ACCESS_RULE;
 use model::numbers::ACCESS_ZONE;
@@ -10,6 +13,18 @@ use model::numbers::MINUTES_OF_DAY;
 use model::numbers::NONE;
 use model::numbers::SECONDS_OF_DAY;
 use model::numbers::SECONDS_OF_MINUTE;
+use records::fields::bit_of;
+use records::site::from_minute_of;
+use records::site::instance_of;
+use records::site::is_always;
+use records::site::is_enabled;
+use records::site::is_everywhere;
+use records::site::is_negative;
+use records::site::kind_of;
+use records::site::location_kind_of;
+use records::site::location_of;
+use records::site::to_minute_of;
+use records::site::weekdays_of;
 ghost use mathlib.Core.Path.{_≡_};
 ghost use mathlib.Core.List.{[], _∷_};
 ghost use mathlib.Core.Bool.{true};
@@ -30,10 +45,10 @@ const LONG_CHAIN: usize = 32;
 
 // What the rules are asked: the rights numbers of a credential, a point with its Zone_To, a time.
 pub struct Asked {
-    pub first: u32,
-    pub second: u32,
-    pub point: u32,
-    pub to: u32,
+    pub first: RightsId,
+    pub second: RightsId,
+    pub point: PointId,
+    pub to: ZoneId,
     pub time: u32,
 }
 
@@ -58,31 +73,30 @@ pub fn minute_of_day(time: u32) -> u16
 }
 
 // Whether a record is an enabled rule of either rights number. Records of another kind or number are passed over first; NONE is no rule's.
-pub fn is_enabled_rule(part: &[u8], first: u32, second: u32) -> bool
+pub fn is_enabled_rule(part: &[u8], first: RightsId, second: RightsId) -> bool
     requires { ⌜ length (now part) ≡ 32 ⌝ }
     ensures { λ r. ⌜ r ≡ enabledRule first second (now (part .entry)) ⌝ }
 {
-    if octets::get_u8(part, 0) != ACCESS_RULE {
+    if kind_of(part) != ACCESS_RULE {
         return false;
     }
-    let instance = octets::get_u32(part, 4);
-    if (instance != first) & (instance != second) {
+    let instance = instance_of(part);
+    if (instance != first.0) & (instance != second.0) {
         return false;
     }
-    (instance != NONE) & records::flag_of(part, 0)
+    (instance != NONE) & is_enabled(part)
 }
 
 // Whether a rule holds at a point with a Zone_To.
-pub fn location_fits(part: &[u8], point: u32, to: u32) -> bool
+pub fn location_fits(part: &[u8], point: PointId, to: ZoneId) -> bool
     requires { ⌜ length (now part) ≡ 32 ⌝ }
     ensures { λ r. ⌜ r ≡ locationFits point to (now (part .entry)) ⌝ }
 {
-    let kind = octets::get_u8(part, 2);
-    let location = octets::get_u32(part, 8);
-    let everywhere = records::flag_of(part, 3);
-    everywhere
-        | (kind == ACCESS_POINT) & (location == point)
-        | (kind == ACCESS_ZONE) & (location == to) & (to != NONE)
+    let kind = location_kind_of(part);
+    let location = location_of(part);
+    is_everywhere(part)
+        | (kind == ACCESS_POINT) & (location == point.0)
+        | (kind == ACCESS_ZONE) & (location == to.0) & (to.0 != NONE)
 }
 
 // Whether a rule holds at a time.
@@ -90,10 +104,9 @@ pub fn time_fits(part: &[u8], time: u32) -> bool
     requires { ⌜ length (now part) ≡ 32 ⌝ }
     ensures { λ r. ⌜ r ≡ timeFits time (now (part .entry)) ⌝ }
 {
-    let always = records::flag_of(part, 2);
-    let today = records::bit_of(octets::get_u8(part, 3), weekday_of(time));
+    let today = bit_of(weekdays_of(part), weekday_of(time));
     let minute = minute_of_day(time);
-    always | today & (octets::get_u16(part, 12) <= minute) & (minute < octets::get_u16(part, 14))
+    is_always(part) | today & (from_minute_of(part) <= minute) & (minute < to_minute_of(part))
 }
 
 fn nothing() -> Verdict
@@ -117,7 +130,7 @@ fn with_record(v: Verdict, part: &[u8], a: Asked) -> Verdict
     if !location_fits(part, a.point, a.to) {
         return v;
     }
-    let negative = records::flag_of(part, 1);
+    let negative = is_negative(part);
     let timely = time_fits(part, a.time);
     Verdict {
         negative_fits: v.negative_fits | (negative & timely),
@@ -172,12 +185,12 @@ fn rule_classes(a: Asked) -> [usize; RULE_CLASSES]
     ensures { λ r. ⌜ (r ≡ ruleClasses a) × Classes r ⌝ }
 {
     [
-        index::rule_class(a.first, 0, 0),
-        index::rule_class(a.first, ACCESS_POINT, a.point),
-        index::rule_class(a.first, ACCESS_ZONE, a.to),
-        index::rule_class(a.second, 0, 0),
-        index::rule_class(a.second, ACCESS_POINT, a.point),
-        index::rule_class(a.second, ACCESS_ZONE, a.to),
+        index::rule_class(a.first.0, 0, 0),
+        index::rule_class(a.first.0, ACCESS_POINT, a.point.0),
+        index::rule_class(a.first.0, ACCESS_ZONE, a.to.0),
+        index::rule_class(a.second.0, 0, 0),
+        index::rule_class(a.second.0, ACCESS_POINT, a.point.0),
+        index::rule_class(a.second.0, ACCESS_ZONE, a.to.0),
     ]
 }
 
@@ -185,7 +198,7 @@ fn rule_classes(a: Asked) -> [usize; RULE_CLASSES]
 fn class_count(a: Asked) -> usize
     ensures { λ r. ⌜ (r ≡ classCount a) × (r ≤ 6) ⌝ }
 {
-    if (a.second == a.first) | (a.second == NONE) {
+    if (a.second.0 == a.first.0) | (a.second.0 == NONE) {
         return NUMBER_CLASSES;
     }
     RULE_CLASSES

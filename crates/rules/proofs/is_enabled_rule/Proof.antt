@@ -12,24 +12,25 @@ use Rattle.rules.proofs.is_enabled_rule.Tie as tie
 returns : tie.Need-returns
 returns c =
     let a = c .before .before .before .args in
-    sym (other-kind (a .first) (a .second) (now (a .part)) (rw (← c .before .get-u8 .ensures) (ne-eqb _ _ (c .if1 .taken))))
+    sym (other-kind (a .first) (a .second) (now (a .part)) (rw (← c .before .kind-of .ensures) (ne-eqb _ _ (c .if1 .taken))))
 
 returns-2 : tie.Need-returns-2
 returns-2 c =
-    let a = c .before .before .before .before .before .args in
-    sym (other-number (a .first) (a .second) (now (a .part)) (rw (← c .before .get-u32 .ensures) (c .if2 .taken)))
+    let i = c .before .before .before in
+    let a = i .before .before .before .before .args in
+    sym (other-number (a .first) (a .second) (now (a .part)) (rw (← i .instance-of .ensures) (c .if2 .taken)))
 
 returns-3 : tie.Need-returns-3
 unfolding enabledRule
 returns-3 c =
-    let d = c .before .before in
-    let a = d .before .before .before .before .args in
+    let i = c .before .before .before .before in
+    let a = i .before .before .before .before .args in
     rw (
-      ← d .before .before .get-u8 .ensures,
-      eq-eqb _ _ (d .before .if1 .left),
-      of-number (a .first) (a .second) (instance (now (a .part))) (rw (← d .get-u32 .ensures) (c .before .if2 .left)),
-      c .flag-of .ensures,
-      d .get-u32 .ensures,
+      ← i .before .before .kind-of .ensures,
+      eq-eqb _ _ (i .before .if1 .left),
+      of-number (a .first .0) (a .second .0) (instance (now (a .part))) (rw (← i .instance-of .ensures) (c .before .if2 .left)),
+      c .is-enabled .ensures,
+      i .instance-of .ensures,
     )
 
 pub is-enabled-rule-spec : {M : Type 1} → statement M

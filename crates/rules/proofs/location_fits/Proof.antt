@@ -4,10 +4,13 @@ use Rattle.model.specs.Checks.{locationFits}
 use Rattle.rules.proofs.location_fits.Statement.{statement}
 use Rattle.rules.proofs.location_fits.Tie as tie
 
-pub location-fits-spec : {M : Type 1} → statement M
+returns : tie.Need-returns
 unfolding locationFits
+returns c = cc
+
+pub location-fits-spec : {M : Type 1} → statement M
 location-fits-spec =
     tie.close
     (tie.spec
     (λ c κs. search needs) (λ c κs. search needs) (λ c κs. search needs)
-    (λ c. rw (c .flag-of .ensures, c .before .get-u32 .ensures, c .before .before .get-u8 .ensures)))
+    returns)

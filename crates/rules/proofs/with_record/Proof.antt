@@ -36,7 +36,7 @@ returns-3 c =
       ← l .before .location-fits .ensures,
       not-false (l .before .location-fits .result) (l .if2 .left),
       t .time-fits .ensures,
-      t .before .flag-of .ensures,
+      t .before .is-negative .ensures,
     )
     (simp (and-true, or-false))
 
