@@ -2,7 +2,7 @@
 ghost use mathlib.Core.Path.{_≡_};
 ghost use Rattle.model.specs.Site.{records};
 ghost use Rattle.model.specs.Checks.{eventOf};
-ghost use Rattle.checks.specs.Asks.{beforePermission};
+ghost use Rattle.checks.specs.Moves.{beforePermission};
 ghost use Rattle.index.specs.Index.{Indexed};
 ghost use Rattle.journal.specs.Decide.{rulesOf, readOutcome};
 use effects::operations;
