@@ -1,5 +1,6 @@
 pub mod Records
-pub mod Passed
+pub mod Searches
+pub mod Sought
 pub mod Places
 pub mod Panels
 pub mod Values

@@ -1,20 +1,21 @@
--- The records of a site: what is found of them or is not, and what a rule in range names.
-use Prim.Native.Nat.{ℕ, zero, suc, _*_, _/_, _≤_}
+-- The records of a site: what is found of them or is not, what passes, and what a rule in range names.
+use Prim.Native.Nat.{ℕ, zero, suc, _+_, _*_, _/_, _≤_, _<_}
 use mathlib.Core.Path.{_≡_, refl}
 use mathlib.Core.List.{List, [], _∷_}
-use mathlib.Core.Bool.{Bool, true, false, _&&_}
+use mathlib.Core.Bool.{Bool, true, false, _&&_, _||_, and-false}
 use native.Mathlib.Omega.{arith}
 use lib.Dec.{ltb, leb, eqb, eqb·suc-zero}
-use lib.ListN.{length, take, drop, length-drop}
+use lib.ListN.{length, take, drop, getD, length-drop}
 use lib.Seq.{length-take-le}
 use borrow.Author.Tests.{leb-true}
 use Rattle.octets.specs.Octets.{field, groups}
-use Rattle.model.specs.Words.{if_then_else_, missing, within}
-use Rattle.model.specs.Numbers.{minutes-of-day, access-rule}
-use Rattle.model.specs.Site.{kind, instance, everywhere, locationKind, weekdays, location, fromMinute, toMinute, records, findIn, reference}
-use Rattle.model.specs.Accept.{clear, real, ruleInRange, inRange}
+use Rattle.model.specs.Words.{if_then_else_, missing, within, any, all}
+use Rattle.model.specs.Numbers.{minutes-of-day, access-zone, access-point}
+use Rattle.model.specs.Site.{recordKind, instance, everywhere, locationKind, weekdays, location, fromMinute, toMinute, records, findIn}
+use Rattle.model.specs.Accept.{clear, real, ruleInRange, inRangeAs, inRange, twins, twice}
+use Rattle.model.specs.declared.RecordKind.the-variants.{OfRule}
 use Rattle.model.proofs.Laws.{and-left, and-right}
-use Rattle.index.specs.Index.{ByInstance}
+use Rattle.index.proofs.Walks.{left-turn}
 
 -- What is missing has no bytes.
 pub no-bytes : (s : List ℕ) → eqb (length s) 0 ≡ missing s
@@ -37,26 +38,38 @@ pub found-whole : (q : List ℕ → Bool) (site : List ℕ) → missing (findIn 
 unfolding records
 found-whole q site m = whole q (length site / 32) site (omega arith) m
 
--- A reference in a whole record is the number there.
-pub reference-in : (at : ℕ) (s : List ℕ) → length s ≡ 32 → reference at s ≡ field at 4 s
-unfolding reference
-reference-in at [] h = absurd (omega arith)
-reference-in at (x ∷ s) h = refl
+-- Where every record passes, the i-th does; where one does not, not every one does.
+module _ (q : List ℕ → Bool) where
+  pub all-at : (ss : List (List ℕ)) → all q ss ≡ true → (i : ℕ) → i < length ss → q (getD ss i []) ≡ true
+  all-at (s ∷ ss) h zero l = and-left (q s) (all q ss) h
+  all-at (s ∷ ss) h (suc i) l = all-at ss (and-right (q s) (all q ss) h) i (omega arith)
 
--- A rule in range is in the range of rules, and its location, unless everywhere, is looked up by its instance.
-pub rule-in-range : (s : List ℕ) → inRange s ≡ true → kind s ≡ access-rule → ruleInRange s ≡ true
+  pub all-not : (ss : List (List ℕ)) (i : ℕ) → i < length ss → q (getD ss i []) ≡ false → all q ss ≡ false
+  all-not (s ∷ ss) zero l h = rw h
+  all-not (s ∷ ss) (suc i) l h = rw (all-not ss i (omega arith) h) (and-false (q s))
+
+-- The same twice: the record at i with one after it, or two of those after it.
+pub twice-turn : (ss : List (List ℕ)) (i : ℕ) → i < length ss
+    → twice (drop i ss) ≡ any (twins (getD ss i [])) (drop (i + 1) ss) || twice (drop (i + 1) ss)
+unfolding twice
+twice-turn ss i h = rw (left-turn ss i h)
+
+-- A rule in range: a location that is not a zone is a point.
+pub rule-in-range : (s : List ℕ) → inRange s ≡ true → recordKind s ≡ OfRule → ruleInRange s ≡ true
 unfolding inRange
-rule-in-range s h k = and-right (real (instance s)) (ruleInRange s) (rw k at h)
+rule-in-range s h k = rw k at (and-right (real (instance s)) (inRangeAs (recordKind s) s) h)
 
-pub location-by-instance : (s : List ℕ) → ruleInRange s ≡ true → everywhere s ≡ false → ByInstance (locationKind s)
+pub point-location : (s : List ℕ) → ruleInRange s ≡ true → everywhere s ≡ false → (locationKind s ≡ access-zone → ⊥) → locationKind s ≡ access-point
 unfolding ruleInRange
-location-by-instance s h e =
-    let place = within 1 2 (locationKind s) && real (location s) in
+point-location s h e z =
+    let place = within access-zone access-point (locationKind s) && real (location s) in
     let flags = ltb (field 1 1 s) 16 && ltb (weekdays s) 128 in
     let upto = flags && place && leb (fromMinute s) (toMinute s) in
     let inside : upto && leb (toMinute s) minutes-of-day && clear 16 16 s ≡ true = rw e at h in
     let l = and-left (upto && leb (toMinute s) minutes-of-day) (clear 16 16 s) inside in
     let k = and-left upto (leb (toMinute s) minutes-of-day) l in
     let p = and-right flags place (and-left (flags && place) (leb (fromMinute s) (toMinute s)) k) in
-    let w = and-right (leb 1 (locationKind s)) (leb (locationKind s) 2) (and-left (within 1 2 (locationKind s)) (real (location s)) p) in
-    (λ q. omega (arith, leb-true (locationKind s) 2 w), λ q. omega (arith, leb-true (locationKind s) 2 w))
+    let w = and-left (within access-zone access-point (locationKind s)) (real (location s)) p in
+    let low = leb-true access-zone (locationKind s) (and-left (leb access-zone (locationKind s)) (leb (locationKind s) access-point) w) in
+    let high = leb-true (locationKind s) access-point (and-right (leb access-zone (locationKind s)) (leb (locationKind s) access-point) w) in
+    omega arith

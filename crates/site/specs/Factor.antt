@@ -10,7 +10,7 @@ use Rattle.site.specs.declared.Presented.{Presented}
 
 -- A factor record fits what is presented.
 unfoldable pub fits : Presented → List ℕ → Bool
-fits p = if p .confirms then confirming (p .credential .0) (p .format) (p .value) else identifying (p .format) (p .value)
+fits p = if p .confirms then confirming (p .credential) (p .format) (p .value) else identifying (p .format) (p .value)
 
 -- The bucket of the factors that fit it.
 unfoldable pub presentedBucket : Presented → ℕ

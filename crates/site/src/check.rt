@@ -36,7 +36,7 @@ fn index_records(site: &[u8], index: &mut [u16]) -> Returned
     if twice {
         return Returned::SiteTwice;
     }
-    if names::is_refused(site, index) {
+    if !names::all_names_exist(site, index) {
         return Returned::SiteMissing;
     }
     Returned::WorkedThrough

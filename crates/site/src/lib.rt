@@ -1,4 +1,5 @@
-// The check of a site file, and the lookups in it: on any slice, and by the index of a site.
+// The check of a site file, and the lookups in it: on any slice, and by the index of a site. A lookup takes a number of its own type; what goes by a kind
+// and a bare number stays inside this crate.
 pub mod lookup; // lookup.rt: the record that a number names, and its place, on any slice
 pub mod indexed; // indexed.rt: the same by the index of the site
 pub mod range; // range.rt: whether a field is out of range
@@ -6,14 +7,7 @@ pub mod twins; // twins.rt: whether the same is there twice
 pub mod names; // names.rt: whether a named object is missing
 pub mod check; // check.rt: whether a site is turned back, and its index
 
-// Instances are numbered per object type, so that zone 7 is never credential 7: a number of each type is a type of its own.
-pub struct ZoneId(pub u32);
-
-pub struct PointId(pub u32);
-
-pub struct CredentialId(pub u32);
-
-pub struct RightsId(pub u32);
+use model::CredentialId;
 
 // A factor as it is presented: to identify a credential, or to confirm this one.
 pub struct Presented {

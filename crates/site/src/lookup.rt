@@ -9,14 +9,15 @@ ghost use Rattle.model.specs.Site.{records, isAt, findIn, lookup};
 ghost use Rattle.model.specs.Checks.{presents, identifying, confirming};
 ghost use Rattle.site.specs.Place.{placeOf};
 ghost use Rattle.site.specs.Factor.{fits};
-use super::CredentialId;
 use super::Place;
-use super::PointId;
 use super::Presented;
-use super::RightsId;
-use super::ZoneId;
 use index::record_at;
 use index::record_count;
+use model::CredentialId;
+use model::PointId;
+use model::RightsId;
+use model::ZoneId;
+use model::layout::FACTOR_VALUE;
 use model::numbers::ACCESS_CREDENTIAL;
 use model::numbers::ACCESS_POINT;
 use model::numbers::ACCESS_RULE;
@@ -24,19 +25,21 @@ use model::numbers::ACCESS_ZONE;
 use model::numbers::AUTHENTICATION_FACTOR;
 use model::numbers::ROLE_CONFIRMING;
 use model::numbers::ROLE_IDENTIFYING;
+use records::site::format_of;
+use records::site::instance_of;
+use records::site::kind_of;
+use records::site::role_of;
 
-pub fn is_at(part: &[u8], kind: u8, instance: u32) -> bool
+// Whether a record has a kind and an instance; the lookups by the index share it.
+pub(crate) fn is_at(part: &[u8], kind: u8, instance: u32) -> bool
     requires { ⌜ length (now part) ≡ 32 ⌝ }
     ensures { λ r. ⌜ r ≡ isAt kind instance (now (part .entry)) ⌝ }
 {
-    if octets::get_u8(part, 0) != kind {
-        return false;
-    }
-    octets::get_u32(part, 4) == instance
+    (kind_of(part) == kind) & (instance_of(part) == instance)
 }
 
 // The place of the first record of a kind and an instance.
-pub fn place_of(site: &[u8], kind: u8, instance: u32) -> Place
+fn place_of(site: &[u8], kind: u8, instance: u32) -> Place
     ensures { λ r. ⌜ r ≡ placeOf kind instance (now (site .entry)) ⌝ }
 {
     let n = record_count(site);
@@ -51,7 +54,7 @@ pub fn place_of(site: &[u8], kind: u8, instance: u32) -> Place
 }
 
 // The first record of a kind and an instance, else the empty part.
-pub fn find(site: &[u8], kind: u8, instance: u32) -> &[u8]
+fn find(site: &[u8], kind: u8, instance: u32) -> &[u8]
     ensures { λ r. ⌜ now r ≡ lookup kind instance (now (site .entry)) ⌝ }
 {
     match place_of(site, kind, instance) {
@@ -105,7 +108,7 @@ pub fn place_of_credential(site: &[u8], credential: CredentialId) -> Place
 
 // Whether eight bytes of one slice are eight bytes of another. They are compared as two words, which is quicker than byte by byte or as one number, and
 // the second word first, since values with leading zeros differ there.
-pub fn same_eight(a: &[u8], i: usize, b: &[u8], j: usize) -> bool
+pub(crate) fn same_eight(a: &[u8], i: usize, b: &[u8], j: usize) -> bool
     requires { ⌜ (i + 8 ≤ length (now a)) × (j + 8 ≤ length (now b)) ⌝ }
     ensures { λ r. ⌜ r ≡ same (take 8 (drop i (now (a .entry)))) (take 8 (drop j (now (b .entry)))) ⌝ }
 {
@@ -120,48 +123,35 @@ fn has_value(part: &[u8], value: [u8; 8]) -> bool
     requires { ⌜ length (now part) ≡ 32 ⌝ }
     ensures { λ r. ⌜ r ≡ same (Site.value (now (part .entry))) value ⌝ }
 {
-    same_eight(part, 16, &value, 0)
+    same_eight(part, FACTOR_VALUE, &value, 0)
 }
 
-// Whether a factor has a format and a value. Most differ in the value.
+// Whether a factor has a format and a value.
 fn is_presented(part: &[u8], format: u8, value: [u8; 8]) -> bool
     requires { ⌜ length (now part) ≡ 32 ⌝ }
     ensures { λ r. ⌜ r ≡ presents format value (now (part .entry)) ⌝ }
 {
-    if !has_value(part, value) {
-        return false;
-    }
-    octets::get_u8(part, 8) == format
+    (format_of(part) == format) & has_value(part, value)
 }
 
 fn is_identifying(part: &[u8], format: u8, value: [u8; 8]) -> bool
     requires { ⌜ length (now part) ≡ 32 ⌝ }
     ensures { λ r. ⌜ r ≡ identifying format value (now (part .entry)) ⌝ }
 {
-    if octets::get_u8(part, 0) != AUTHENTICATION_FACTOR {
-        return false;
-    }
-    if octets::get_u8(part, 2) != ROLE_IDENTIFYING {
-        return false;
-    }
-    is_presented(part, format, value)
+    (kind_of(part) == AUTHENTICATION_FACTOR)
+        & ((role_of(part) == ROLE_IDENTIFYING) & is_presented(part, format, value))
 }
 
 fn is_confirming(part: &[u8], credential: CredentialId, format: u8, value: [u8; 8]) -> bool
     requires { ⌜ length (now part) ≡ 32 ⌝ }
-    ensures { λ r. ⌜ r ≡ confirming (credential .0) format value (now (part .entry)) ⌝ }
+    ensures { λ r. ⌜ r ≡ confirming credential format value (now (part .entry)) ⌝ }
 {
-    if !is_at(part, AUTHENTICATION_FACTOR, credential.0) {
-        return false;
-    }
-    if octets::get_u8(part, 2) != ROLE_CONFIRMING {
-        return false;
-    }
-    is_presented(part, format, value)
+    is_at(part, AUTHENTICATION_FACTOR, credential.0)
+        & ((role_of(part) == ROLE_CONFIRMING) & is_presented(part, format, value))
 }
 
-// Whether a factor fits what is presented.
-pub fn is_fitting(part: &[u8], p: Presented) -> bool
+// Whether a factor fits what is presented; the lookup by the index shares it.
+pub(crate) fn is_fitting(part: &[u8], p: Presented) -> bool
     requires { ⌜ length (now part) ≡ 32 ⌝ }
     ensures { λ r. ⌜ r ≡ fits p (now (part .entry)) ⌝ }
 {

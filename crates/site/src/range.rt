@@ -2,19 +2,25 @@
 ghost use mathlib.Core.Path.{_≡_};
 ghost use Prim.Native.Nat.{_+_, _≤_, _<_};
 ghost use lib.ListN.{length};
-ghost use Rattle.model.specs.Accept.{clear, zoneInRange, pointInRange, ruleInRange, credentialInRange, factorInRange, inRange};
+ghost use Rattle.model.specs.Site.{recordKind};
+ghost use Rattle.model.specs.Accept.{clear, zoneInRange, pointInRange, ruleInRange, credentialInRange, factorInRange, inRangeAs, inRange};
 ghost use Rattle.site.specs.Parts.{locationInRange};
-use model::numbers::ACCESS_CREDENTIAL;
+use model::RecordKind;
+use model::layout;
 use model::numbers::ACCESS_POINT;
-use model::numbers::ACCESS_RULE;
 use model::numbers::ACCESS_ZONE;
-use model::numbers::AUTHENTICATION_FACTOR;
+use model::numbers::FACTOR_DESTROYED;
+use model::numbers::FORMAT_ERROR;
 use model::numbers::LARGEST_DISABLE;
+use model::numbers::LARGEST_THREAT;
+use model::numbers::MINUTES_OF_DAY;
+use model::numbers::MODE_DENY_ALL;
 use model::numbers::NONE;
-
-const LARGEST_THREAT: u8 = 100;
-
-const LARGEST_MINUTE: u16 = 1440;
+use model::numbers::PASSBACK_SOFT;
+use model::numbers::ROLE_CONFIRMING;
+use model::numbers::ROLE_IDENTIFYING;
+use model::numbers::TWO_FACTORS;
+use records::site;
 
 // Whether w bytes are zero, w being 0, 1, 2 or 4.
 fn is_word_clear(part: &[u8], at: usize, w: usize) -> bool
@@ -62,27 +68,26 @@ fn zone_in_range(part: &[u8]) -> bool
     requires { ⌜ length (now part) ≡ 32 ⌝ }
     ensures { λ r. ⌜ r ≡ zoneInRange (now (part .entry)) ⌝ }
 {
-    (octets::get_u8(part, 1) < 2)
-        & (octets::get_u8(part, 2) <= 2)
-        & is_clear(part, 3, 1)
-        & is_clear(part, 20, 12)
+    let z = site::zone_of(part);
+    (site::flags_of(part) < layout::ZONE_FLAGS_END)
+        & (z.passback <= PASSBACK_SOFT)
+        & is_clear(part, layout::ZONE_SPARE_BYTE, 1)
+        & is_clear(part, layout::ZONE_SPARE, layout::ZONE_SPARE_SIZE)
 }
 
 fn point_in_range(part: &[u8]) -> bool
     requires { ⌜ length (now part) ≡ 32 ⌝ }
     ensures { λ r. ⌜ r ≡ pointInRange (now (part .entry)) ⌝ }
 {
-    let wanted = octets::get_u8(part, 3);
-    let zone_to = octets::get_u32(part, 8);
-    let zone_from = octets::get_u32(part, 12);
-    (octets::get_u8(part, 1) < 32)
-        & (octets::get_u8(part, 2) <= 2)
-        & ((1 <= wanted) & (wanted <= 2))
-        & (zone_to <= NONE)
-        & (zone_from <= NONE)
-        & ((zone_to == NONE) | (zone_to != zone_from))
-        & (octets::get_u8(part, 16) <= LARGEST_THREAT)
-        & is_clear(part, 28, 4)
+    let p = site::point_of(part);
+    (site::flags_of(part) < layout::POINT_FLAGS_END)
+        & (p.mode <= MODE_DENY_ALL)
+        & ((1 <= p.factors_wanted) & (p.factors_wanted <= TWO_FACTORS))
+        & (p.zone_to.0 <= NONE)
+        & (p.zone_from.0 <= NONE)
+        & ((p.zone_to.0 == NONE) | (p.zone_to.0 != p.zone_from.0))
+        & (p.threat_level <= LARGEST_THREAT)
+        & is_clear(part, layout::POINT_SPARE, layout::POINT_SPARE_SIZE)
 }
 
 // A rule's location: none where the rule is for everywhere, else a zone or a point.
@@ -90,66 +95,78 @@ fn location_in_range(part: &[u8]) -> bool
     requires { ⌜ length (now part) ≡ 32 ⌝ }
     ensures { λ r. ⌜ r ≡ locationInRange (now (part .entry)) ⌝ }
 {
-    let kind = octets::get_u8(part, 2);
-    let location = octets::get_u32(part, 8);
-    if records::flag_of(part, 3) {
+    let kind = site::location_kind_of(part);
+    let location = site::location_of(part);
+    if site::is_everywhere(part) {
         return (kind == 0) & (location == 0);
     }
-    ((1 <= kind) & (kind <= 2)) & (location < NONE)
+    ((ACCESS_ZONE <= kind) & (kind <= ACCESS_POINT)) & (location < NONE)
 }
 
 fn rule_in_range(part: &[u8]) -> bool
     requires { ⌜ length (now part) ≡ 32 ⌝ }
     ensures { λ r. ⌜ r ≡ ruleInRange (now (part .entry)) ⌝ }
 {
-    let from = octets::get_u16(part, 12);
-    let to = octets::get_u16(part, 14);
-    (octets::get_u8(part, 1) < 16)
-        & (octets::get_u8(part, 3) < 128)
+    let to = site::to_minute_of(part);
+    (site::flags_of(part) < layout::RULE_FLAGS_END)
+        & (site::weekdays_of(part) < layout::RULE_DAYS_END)
         & location_in_range(part)
-        & (from <= to)
-        & (to <= LARGEST_MINUTE)
-        & is_clear(part, 16, 16)
+        & (site::from_minute_of(part) <= to)
+        & ((to as u32) <= MINUTES_OF_DAY)
+        & is_clear(part, layout::RULE_SPARE, layout::RULE_SPARE_SIZE)
 }
 
 fn credential_in_range(part: &[u8]) -> bool
     requires { ⌜ length (now part) ≡ 32 ⌝ }
     ensures { λ r. ⌜ r ≡ credentialInRange (now (part .entry)) ⌝ }
 {
-    (octets::get_u8(part, 1) < 32)
-        & (octets::get_u8(part, 2) <= LARGEST_DISABLE)
-        & (octets::get_u8(part, 3) <= LARGEST_THREAT)
-        & is_clear(part, 22, 2)
-        & (octets::get_u32(part, 24) <= NONE)
-        & (octets::get_u32(part, 28) <= NONE)
+    let c = site::credential_of(part);
+    (site::flags_of(part) < layout::CREDENTIAL_FLAGS_END)
+        & (site::disable_given(part) <= LARGEST_DISABLE)
+        & (c.threat_authority <= LARGEST_THREAT)
+        & is_clear(
+            part,
+            layout::CREDENTIAL_SPARE,
+            layout::CREDENTIAL_SPARE_SIZE,
+        )
+        & (c.first_rights.0 <= NONE)
+        & (c.second_rights.0 <= NONE)
 }
 
 fn factor_in_range(part: &[u8]) -> bool
     requires { ⌜ length (now part) ≡ 32 ⌝ }
     ensures { λ r. ⌜ r ≡ factorInRange (now (part .entry)) ⌝ }
 {
-    let role = octets::get_u8(part, 2);
-    is_clear(part, 1, 1)
-        & ((1 <= role) & (role <= 2))
-        & (octets::get_u8(part, 3) <= 5)
-        & (2 <= octets::get_u8(part, 8))
-        & is_clear(part, 9, 7)
-        & is_clear(part, 24, 8)
+    let role = site::role_of(part);
+    (site::flags_of(part) == 0)
+        & ((ROLE_IDENTIFYING <= role) & (role <= ROLE_CONFIRMING))
+        & (site::factor_disable_of(part) <= FACTOR_DESTROYED)
+        & (FORMAT_ERROR < site::format_of(part))
+        & is_clear(
+            part,
+            layout::FACTOR_FORMAT_SPARE,
+            layout::FACTOR_FORMAT_SPARE_SIZE,
+        )
+        & is_clear(part, layout::FACTOR_SPARE, layout::FACTOR_SPARE_SIZE)
 }
 
-pub fn in_range(part: &[u8]) -> bool
+fn fields_in_range(part: &[u8]) -> bool
+    requires { ⌜ length (now part) ≡ 32 ⌝ }
+    ensures { λ r. ⌜ r ≡ inRangeAs (recordKind (now (part .entry))) (now (part .entry)) ⌝ }
+{
+    match site::record_kind_of(part) {
+        RecordKind::OfZone => zone_in_range(part),
+        RecordKind::OfPoint => point_in_range(part),
+        RecordKind::OfRule => rule_in_range(part),
+        RecordKind::OfCredential => credential_in_range(part),
+        RecordKind::OfFactor => factor_in_range(part),
+        RecordKind::OfUnknown => false,
+    }
+}
+
+pub(crate) fn in_range(part: &[u8]) -> bool
     requires { ⌜ length (now part) ≡ 32 ⌝ }
     ensures { λ r. ⌜ r ≡ inRange (now (part .entry)) ⌝ }
 {
-    if NONE <= octets::get_u32(part, 4) {
-        return false;
-    }
-    match octets::get_u8(part, 0) {
-        ACCESS_ZONE => zone_in_range(part),
-        ACCESS_POINT => point_in_range(part),
-        ACCESS_RULE => rule_in_range(part),
-        ACCESS_CREDENTIAL => credential_in_range(part),
-        AUTHENTICATION_FACTOR => factor_in_range(part),
-        _ => false,
-    }
+    (site::instance_of(part) < NONE) & fields_in_range(part)
 }

@@ -15,7 +15,7 @@ use Rattle.model.specs.Calls.{isWorked}
 use Rattle.index.specs.Index.{IndexedFrom}
 use Rattle.index.proofs.Walks.{left-turn, left-end}
 use Rattle.site.specs.Parts.{recordsReturned}
-use Rattle.site.proofs.Passed.{all-not, twice-turn}
+use Rattle.site.proofs.Records.{all-not, twice-turn}
 use Rattle.site.proofs.check.index_records.Statement.{statement}
 use Rattle.site.proofs.check.index_records.Tie as tie
 
@@ -73,8 +73,8 @@ returns-2 c =
     let z : l .i ≡ 0 = omega arith in
     (rw (rw z at (l .inv .2), ← rw z at (l .inv .3), c .if2 .taken), λ w. absurd (false≢true w))
 
-is-refused-requires : tie.Need-is-refused-requires Inv-loop μ-loop
-is-refused-requires c κs =
+all-names-exist-requires : tie.Need-all-names-exist-requires Inv-loop μ-loop
+all-names-exist-requires c κs =
     let l = c .before .before .before .loop in
     let z : l .i ≡ 0 = omega arith in
     (rw z at (l .inv .1), rw z at (l .inv .2))
@@ -84,14 +84,14 @@ unfolding recordsReturned isWorked
 returns-3 c =
     let l = c .before .before .before .before .before .loop in
     let z : l .i ≡ 0 = omega arith in
-    (rw (rw z at (l .inv .2), ← rw z at (l .inv .3), c .before .before .before .if2 .left, ← c .before .is-refused .ensures, c .if3 .taken), λ w. absurd (false≢true w))
+    (rw (rw z at (l .inv .2), ← rw z at (l .inv .3), c .before .before .before .if2 .left, ← c .before .all-names-exist .ensures, c .if3 .taken), λ w. absurd (false≢true w))
 
 returns-4 : tie.Need-returns-4 Inv-loop μ-loop
 unfolding recordsReturned
 returns-4 c =
     let l = c .before .before .before .before .before .loop in
     let z : l .i ≡ 0 = omega arith in
-    (rw (rw z at (l .inv .2), ← rw z at (l .inv .3), c .before .before .before .if2 .left, ← c .before .is-refused .ensures, c .if3 .left), λ w. rw z at (l .inv .1))
+    (rw (rw z at (l .inv .2), ← rw z at (l .inv .3), c .before .before .before .if2 .left, ← c .before .all-names-exist .ensures, c .if3 .left), λ w. rw z at (l .inv .1))
 
 pub index-records-spec : {M : Type 1} → statement M
 index-records-spec =
@@ -112,7 +112,7 @@ index-records-spec =
     loop-again
     (λ c. search needs)
     returns-2
-    is-refused-requires
+    all-names-exist-requires
     (λ c. search needs)
     returns-3
     (λ c. search needs)

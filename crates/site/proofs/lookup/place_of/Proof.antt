@@ -1,63 +1,40 @@
--- Record by record: the place in what is left is the place in the whole.
-use Prim.Native.Nat.{_<_, _-_}
-use mathlib.Core.Path.{_≡_, refl, sym, _∙_}
+-- A search for a place, record by record.
+use Prim.Native.Nat.{_-_}
+use mathlib.Core.Path.{refl}
+use mathlib.Core.List.{[]}
 use native.Mathlib.Omega.{arith}
 use borrow.Author.Needs.{needs}
-use lib.ListN.{length, drop}
-use denote.Ref.{now}
 use Rattle.model.specs.Site.{records, isAt}
-use Rattle.index.proofs.Walks.{left-turn, left-end, past}
 use Rattle.site.specs.Place.{placeFrom, placeOf}
-use Rattle.site.proofs.Passed.{place-passes}
+use Rattle.site.proofs.Searches.{Searched, searched-hit, searched-pass, searched-end, place-search}
 use Rattle.site.proofs.lookup.place_of.Statement.{statement}
 use Rattle.site.proofs.lookup.place_of.Tie as tie
 
 abbrev Inv-loop : tie.InvT-loop
-Inv-loop site kind instance n i₀ i =
-    (n ≡ length (records site)) × (placeFrom (isAt kind instance) i (drop i (records site)) ≡ placeOf kind instance site)
+Inv-loop site kind instance n i₀ i = Searched (placeFrom (isAt kind instance)) (placeOf kind instance site) (records site) n i
 
 abbrev μ-loop : tie.MeasureT-loop
 μ-loop site kind instance n i₀ i = n - i
 
 loop-holds : tie.Need-loop-holds Inv-loop μ-loop
 unfolding placeOf
-loop-holds c = (c .record-count .ensures, refl)
+loop-holds c = record { count = c .record-count .ensures; left = refl }
 
 returns : tie.Need-returns Inv-loop μ-loop
-unfolding placeFrom
 returns c =
-    let l = c .before .before .before .before in
-    let ss = records (now (l .before .before .before .args .site)) in
-    let h : l .loop .i < length ss = omega arith in
-    rw (← l .loop .inv .1, left-turn ss (l .loop .i) h, ← c .before .before .record-at .ensures .0, ← c .before .is-at .ensures, c .if1 .taken)
+    let t = c .before .before in
+    searched-hit (place-search _) [] (t .before .before .loop .inv) (omega arith) (t .record-at .ensures .0) (c .before .is-at .ensures) (c .if1 .taken)
 
 loop-again : tie.Need-loop-again Inv-loop μ-loop
 loop-again c =
-    let l = c .before .before .before .before in
-    let a = l .before .before .before .args in
-    let q = isAt (a .kind) (a .instance) in
-    let ss = records (now (a .site)) in
-    let h : l .loop .i < length ss = omega arith in
-    let n = rw (c .before .is-at .ensures, c .before .before .record-at .ensures .0) at (c .if1 .left) in
-    (l .loop .inv .0, past (placeFrom q) q (place-passes q) ss (l .loop .i) h n (l .loop .inv .1))
-
-returns-2 : tie.Need-returns-2 Inv-loop μ-loop
-unfolding placeFrom
-returns-2 c =
-    let l = c .before in
-    rw (← l .loop .inv .1, left-end (records (now (l .before .before .before .args .site))) (l .loop .i) (omega arith))
+    let t = c .before .before in
+    searched-pass (place-search _) [] (t .before .before .loop .inv) (omega arith) (t .record-at .ensures .0) (c .before .is-at .ensures) (c .if1 .left)
 
 pub place-of-spec : {M : Type 1} → statement M
 place-of-spec =
     tie.close
     (tie.spec
-    Inv-loop
-    μ-loop
-    (λ c κs. tt)
-    loop-holds
-    (λ c κs. search needs)
-    (λ c κs. c .record-at .ensures .1)
-    returns
-    (λ c. search needs) (λ c. search needs)
-    loop-again
-    returns-2)
+    Inv-loop μ-loop (λ c κs. tt) loop-holds
+    (λ c κs. search needs) (λ c κs. c .record-at .ensures .1) returns
+    (λ c. search needs) (λ c. search needs) loop-again
+    (λ c. searched-end (place-search _) [] (c .before .loop .inv) (omega arith)))

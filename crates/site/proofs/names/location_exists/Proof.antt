@@ -1,29 +1,31 @@
--- Everywhere, or the location is there.
+-- Everywhere, or the location is there: in range it is a zone, or else a point.
 use borrow.Author.Needs.{needs}
 use denote.Ref.{now}
-use Rattle.site.proofs.Records.{location-by-instance}
+use mathlib.Core.Path.{_≡_}
+use Rattle.model.specs.Numbers.{access-point}
+use Rattle.model.specs.Site.{locationKind}
+use Rattle.site.proofs.Records.{point-location}
 use Rattle.site.proofs.names.location_exists.Statement.{statement}
 use Rattle.site.proofs.names.location_exists.Tie as tie
-
-returns : tie.Need-returns
-returns c = rw (← c .before .flag-of .ensures, c .if1 .taken)
-
-exists-requires : tie.Need-exists-requires
-exists-requires c κs =
-    let s = c .before .before .before .before .before .before .before in
-    (s .pre .0, rw (c .before .get-u8 .ensures) (location-by-instance (now (s .args .part)) (s .pre .1 .1) (rw (c .before .before .before .flag-of .ensures) at (c .before .before .if1 .left))))
 
 returns-2 : tie.Need-returns-2
 returns-2 c =
     let e = c .before .before .before in
-    rw (← e .before .flag-of .ensures, e .if1 .left, ← c .before .before .get-u8 .ensures, ← c .before .get-u32 .ensures) (c .exists .ensures)
+    rw (← e .before .before .is-everywhere .ensures, e .before .if1 .left, ← e .location-kind-of .ensures, c .before .before .if2 .taken, ← c .before .location-of .ensures) (c .zone-exists .ensures)
+
+returns-3 : tie.Need-returns-3
+returns-3 c =
+    let k = c .before .before .before in
+    let e = k .before .before in
+    let s = e .before .before .before .before in
+    let p = now (s .args .part) in
+    let l : locationKind p ≡ access-point = point-location p (s .pre .1 .1) (rw (e .is-everywhere .ensures) at (k .before .if1 .left)) (rw (k .location-kind-of .ensures) at (c .before .before .if2 .left)) in
+    rw (← e .is-everywhere .ensures, k .before .if1 .left, l, ← c .before .location-of2 .ensures) (c .point-exists .ensures)
 
 pub location-exists-spec : {M : Type 1} → statement M
 location-exists-spec =
     tie.close
     (tie.spec
-    (λ c κs. search needs)
-    returns
-    (λ c κs. search needs) (λ c κs. search needs)
-    exists-requires
-    returns-2)
+    (λ c κs. search needs) (λ c. rw (← c .before .is-everywhere .ensures, c .if1 .taken))
+    (λ c κs. search needs) (λ c κs. search needs) (λ c κs. search needs) returns-2
+    (λ c κs. search needs) (λ c κs. search needs) returns-3)

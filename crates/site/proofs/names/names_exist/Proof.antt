@@ -1,7 +1,5 @@
 -- By the kind.
-use native.Mathlib.Omega.{arith}
 use borrow.Author.Needs.{needs}
-use borrow.Author.Tests.{ne-eqb}
 use denote.Ref.{now}
 use mathlib.Core.Path.{sym, _∙_}
 use Rattle.model.specs.Accept.{namesExist}
@@ -11,38 +9,21 @@ use Rattle.site.proofs.names.names_exist.Tie as tie
 
 location-exists-requires : tie.Need-location-exists-requires
 location-exists-requires c κs =
-    let s = c .before .before .before .before .before in
-    (s .pre .0, (s .pre .1 .0, rule-in-range (now (s .args .part)) (s .pre .1 .1) (sym (c .before .get-u8 .ensures) ∙ c .match .keys2)))
-
-returns : tie.Need-returns
-unfolding namesExist
-returns c = rw (← c .before .before .get-u8 .ensures, c .before .match .keys1) (c .zones-exist .ensures)
-
-returns-2 : tie.Need-returns-2
-unfolding namesExist
-returns-2 c = rw (← c .before .before .get-u8 .ensures, c .before .match .keys2) (c .location-exists .ensures)
-
-returns-3 : tie.Need-returns-3
-unfolding namesExist
-returns-3 c =
-    rw (← c .before .before .before .get-u8 .ensures, c .before .before .match .keys3, ← c .before .get-u32 .ensures) (c .exists .ensures)
-
-returns-4 : tie.Need-returns-4
-unfolding namesExist
-returns-4 c =
-    let n = c .match .rest in
-    rw (← c .before .get-u8 .ensures, ne-eqb _ _ (n .0 .0 .1), ne-eqb _ _ (n .0 .1), ne-eqb _ _ (n .1))
+    let k = c .before .before in
+    let s = k .before .before .before .before in
+    (s .pre .0, (s .pre .1 .0, rule-in-range (now (s .args .part)) (s .pre .1 .1) (sym (k .record-kind-of .ensures) ∙ c .enum-told3 .given .1)))
 
 pub names-exist-spec : {M : Type 1} → statement M
+unfolding namesExist
 names-exist-spec =
     tie.close
     (tie.spec
     (λ c κs. search needs)
-    (λ c κs. let s = c .before .before .before .before .before in (s .pre .0, s .pre .1 .0))
-    location-exists-requires
-    (λ c κs. search needs)
-    (λ c κs. (c .before .before .before .before .before .before .pre .0, (λ p. omega arith, λ p. omega arith)))
-    returns
-    returns-2
-    returns-3
-    returns-4)
+    (λ c. search needs) (λ c. search needs) (λ c κs. search needs) (λ c. search needs) location-exists-requires (λ c. search needs)
+    (λ c. search needs) (λ c κs. search needs) (λ c κs. search needs) (λ c. search needs)
+    (λ c. rw (← c .before .before .record-kind-of .ensures, c .enum-told .given .1))
+    (λ c. rw (← c .before .before .before .record-kind-of .ensures, c .before .enum-told2 .given .1) (c .zones-exist .ensures))
+    (λ c. rw (← c .before .before .before .record-kind-of .ensures, c .before .enum-told3 .given .1) (c .location-exists .ensures))
+    (λ c. rw (← c .before .before .record-kind-of .ensures, c .enum-told4 .given .1))
+    (λ c. rw (← c .before .before .before .before .record-kind-of .ensures, c .before .before .enum-told5 .given .1, ← c .before .instance-of .ensures) (c .credential-exists .ensures))
+    (λ c. rw (← c .before .before .record-kind-of .ensures, c .enum-told6 .given .1)))

@@ -1,14 +1,16 @@
--- Each field in its turn.
+-- The fields of a factor: each test is the definition's.
 use borrow.Author.Needs.{needs}
 use Rattle.model.specs.Accept.{factorInRange}
 use Rattle.site.proofs.range.factor_in_range.Statement.{statement}
 use Rattle.site.proofs.range.factor_in_range.Tie as tie
 
-pub factor-in-range-spec : {M : Type 1} → statement M
+returns : tie.Need-returns
 unfolding factorInRange
+returns c = cc
+
+pub factor-in-range-spec : {M : Type 1} → statement M
 factor-in-range-spec =
     tie.close
     (tie.spec
-    (λ c κs. search needs) (λ c κs. search needs) (λ c κs. search needs) (λ c κs. search needs) (λ c κs. search needs)
-    (λ c κs. search needs)
-    (λ c. rw (c .is-clear3 .ensures, c .before .is-clear2 .ensures, c .before .before .get-u83 .ensures, c .before .before .before .get-u82 .ensures, c .before .before .before .before .is-clear .ensures, c .before .before .before .before .before .get-u8 .ensures)))
+    (λ c κs. search needs) (λ c κs. search needs) (λ c κs. search needs) (λ c κs. search needs) (λ c κs. search needs) (λ c κs. search needs)
+    returns)
