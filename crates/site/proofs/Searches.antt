@@ -12,7 +12,7 @@ use lib.ListN.{length, drop, getD, drop-of-length-le}
 use lib.Seq.{drop-cons}
 use Rattle.model.specs.Words.{any, all}
 use Rattle.model.specs.Site.{kind, findIn}
-use Rattle.index.specs.Index.{buckets, bucketOf, head, link, after, IndexedFrom}
+use Rattle.index.specs.Index.{buckets, bucketOf, recordOf, head, link, after, IndexedFrom}
 use Rattle.index.proofs.Walks.{Walk, walk-from, walk-on, walk-past, after-later, fewer-links}
 use Rattle.site.specs.Place.{placeFrom}
 use Rattle.site.specs.declared.Place.the-variants.{At, Nothing}
@@ -75,10 +75,10 @@ pub record Chain {A : Type 0} (f : ℕ → List (List ℕ) → A) (b k : ℕ) (w
 module _ {A : Type 0} {q : List ℕ → Bool} {f : ℕ → List (List ℕ) → A} {hit : ℕ → List ℕ → A} {miss : A} (S : Search q f hit miss)
     (b : ℕ) (has : (s : List ℕ) → q s ≡ true → bucketOf s ≡ b) {k : ℕ} {ss : List (List ℕ)} {index : List ℕ} (x : IndexedFrom k ss index) where
   -- From the first record of the bucket, or from the one after the k-th, which is of the bucket.
-  pub chain-first : {n m i : ℕ} → n ≡ length ss → m ≡ b → m < buckets → i ≡ head m index → Chain f b k (f k (drop k ss)) ss n 0 i
+  pub chain-first : {n m i : ℕ} → n ≡ length ss → m ≡ b → m < buckets → i ≡ recordOf (head m index) → Chain f b k (f k (drop k ss)) ss n 0 i
   chain-first {n} {m} {i} c o l e = record { count = c; few = omega arith; walk = walk-from f q (S .passes) ss b has k index x true i (rw o at l) (rw o at e) }
 
-  pub chain-next : {n j : ℕ} → n ≡ length ss → k < length ss → bucketOf (getD ss k []) ≡ b → j ≡ link k index → Chain f b k (f (k + 1) (drop (k + 1) ss)) ss n 0 j
+  pub chain-next : {n j : ℕ} → n ≡ length ss → k < length ss → bucketOf (getD ss k []) ≡ b → j ≡ recordOf (link k index) → Chain f b k (f (k + 1) (drop (k + 1) ss)) ss n 0 j
   chain-next {n} {j} c l h e = record { count = c; few = omega arith; walk = walk-on f q (S .passes) ss b has k index x true k j l (omega arith) h refl e }
 
   module _ (kd : ℕ) (kinds : (s : List ℕ) → q s ≡ true → kind s ≡ kd) {w : A} {n links i : ℕ} (y : Chain f b k w ss n links i) where
