@@ -3,55 +3,34 @@ ghost use mathlib.Core.Path.{_≡_};
 ghost use Prim.Native.Nat.{_+_, _*_, _/_, _%_, _<_};
 ghost use lib.ListN.{length};
 ghost use Rattle.octets.specs.Octets.{withPart};
-ghost use Rattle.model.specs.State.{freshPoint, freshCredential, freshRecord, fresh};
-use model::CredentialState;
-use model::PointState;
-use model::numbers::ACCESS_CREDENTIAL;
-use model::numbers::ACCESS_POINT;
-use model::numbers::NEVER;
-use model::numbers::NONE;
+ghost use Rattle.model.specs.State.{freshRecord, fresh};
+use model::RecordKind;
 use model::numbers::RECORD_SIZE;
+use records::site::days_given;
+use records::site::disable_given;
+use records::site::record_kind_of;
+use records::site::uses_given;
+use records::state::fresh_credential;
+use records::state::fresh_point;
+use records::state::write_credential;
+use records::state::write_point;
+use records::state::write_zeros;
 
-fn fresh_point() -> PointState
-    ensures { λ r. ⌜ r ≡ freshPoint ⌝ }
-{
-    PointState {
-        tag: 0,
-        failures: 0,
-        locked: false,
-        lock_time: 0,
-        first_failure: 0,
-        waiting_credential: NONE,
-        waiting_since: 0,
-    }
-}
-
-// The state of a credential that has not been used: uses, days and disable are the site record's.
-fn fresh_credential(s: &[u8]) -> CredentialState
-    requires { ⌜ length (now s) ≡ 32 ⌝ }
-    ensures { λ r. ⌜ r ≡ freshCredential (now (s .entry)) ⌝ }
-{
-    CredentialState {
-        uses: octets::get_u16(s, 16),
-        days: octets::get_u16(s, 18),
-        last_use: NEVER,
-        zone: NONE,
-        entered: NEVER,
-        last_event: 0,
-        disable: octets::get_u8(s, 2),
-        last_point: NONE,
-    }
-}
-
-// The state record of a site record.
+// The state record of the site record s.
 fn write_fresh(part: &mut [u8], s: &[u8])
     requires { ⌜ (length (now part) ≡ 32) × (length (now s) ≡ 32) ⌝ }
     ensures { λ _. ⌜ now (part .exit) ≡ freshRecord (now (s .entry)) ⌝ }
 {
-    match octets::get_u8(s, 0) {
-        ACCESS_POINT => records::write_point(part, fresh_point()),
-        ACCESS_CREDENTIAL => records::write_credential(part, fresh_credential(s)),
-        _ => records::write_zeros(part),
+    match record_kind_of(s) {
+        RecordKind::OfZone => write_zeros(part),
+        RecordKind::OfPoint => write_point(part, fresh_point()),
+        RecordKind::OfRule => write_zeros(part),
+        RecordKind::OfCredential => write_credential(
+            part,
+            fresh_credential(uses_given(s), days_given(s), disable_given(s)),
+        ),
+        RecordKind::OfFactor => write_zeros(part),
+        RecordKind::OfUnknown => write_zeros(part),
     }
 }
 

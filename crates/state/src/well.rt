@@ -5,19 +5,26 @@ ghost use lib.ListN.{length};
 ghost use Rattle.model.specs.Site.{records};
 ghost use Rattle.model.specs.State.{zoneWell, failuresWell, pointWell, credentialWell, recordWell, wellFormed};
 ghost use Rattle.index.specs.Index.{Indexed};
-use model::numbers::ACCESS_CREDENTIAL;
-use model::numbers::ACCESS_POINT;
-use model::numbers::ACCESS_ZONE;
+use model::RecordKind;
+use model::layout;
 use model::numbers::LARGEST_DISABLE;
 use model::numbers::NONE;
-use site::indexed::none_or_exists;
+use model::numbers::RECORD_SIZE;
+use records::site::point_of;
+use records::site::record_kind_of;
+use records::state::credential_state_of;
+use records::state::locked_byte_of;
+use records::state::point_state_of;
+use site::indexed::none_or_credential_exists;
+use site::indexed::none_or_point_exists;
+use site::indexed::none_or_zone_exists;
 use site::range::is_clear;
 
 fn zone_well(t: &[u8]) -> bool
     requires { ⌜ length (now t) ≡ 32 ⌝ }
     ensures { λ r. ⌜ r ≡ zoneWell (now (t .entry)) ⌝ }
 {
-    is_clear(t, 4, 28)
+    is_clear(t, layout::ZONE_STATE_SPARE, layout::ZONE_STATE_SPARE_SIZE)
 }
 
 // Failures are below the most, and none where no most is set.
@@ -35,13 +42,18 @@ fn point_well(site: &[u8], index: &[u16], s: &[u8], t: &[u8]) -> bool
     requires { ⌜ (length (now s) ≡ 32) × (length (now t) ≡ 32) ⌝ }
     ensures { λ r. ⌜ r ≡ pointWell (records (now (site .entry))) (now (s .entry)) (now (t .entry)) ⌝ }
 {
-    let p = records::point_state_of(t);
-    (octets::get_u8(t, 5) <= 1)
-        & is_clear(t, 6, 2)
-        & is_clear(t, 24, 8)
-        & none_or_exists(site, index, ACCESS_CREDENTIAL, p.waiting_credential)
-        & (!p.locked | (p.waiting_credential == NONE))
-        & failures_well(p.failures, octets::get_u8(s, 17))
+    let point = point_of(s);
+    let p = point_state_of(t);
+    (locked_byte_of(t) <= 1)
+        & is_clear(
+            t,
+            layout::POINT_STATE_LOCKED_SPARE,
+            layout::POINT_STATE_LOCKED_SPARE_SIZE,
+        )
+        & is_clear(t, layout::POINT_STATE_SPARE, layout::POINT_STATE_SPARE_SIZE)
+        & none_or_credential_exists(site, index, p.waiting_credential)
+        & (!p.locked | (p.waiting_credential.0 == NONE))
+        & failures_well(p.failures, point.most_failures)
 }
 
 fn credential_well(site: &[u8], index: &[u16], t: &[u8]) -> bool
@@ -49,12 +61,16 @@ fn credential_well(site: &[u8], index: &[u16], t: &[u8]) -> bool
     requires { ⌜ length (now t) ≡ 32 ⌝ }
     ensures { λ r. ⌜ r ≡ credentialWell (records (now (site .entry))) (now (t .entry)) ⌝ }
 {
-    let c = records::credential_state_of(t);
+    let c = credential_state_of(t);
     (c.disable <= LARGEST_DISABLE)
-        & is_clear(t, 19, 1)
-        & is_clear(t, 24, 8)
-        & none_or_exists(site, index, ACCESS_ZONE, c.zone)
-        & none_or_exists(site, index, ACCESS_POINT, c.last_point)
+        & is_clear(t, layout::CREDENTIAL_STATE_SPARE_BYTE, 1)
+        & is_clear(
+            t,
+            layout::CREDENTIAL_STATE_SPARE,
+            layout::CREDENTIAL_STATE_SPARE_SIZE,
+        )
+        & none_or_zone_exists(site, index, c.zone)
+        & none_or_point_exists(site, index, c.last_point)
 }
 
 // The state record t of the site record s.
@@ -63,11 +79,13 @@ fn record_well(site: &[u8], index: &[u16], s: &[u8], t: &[u8]) -> bool
     requires { ⌜ (length (now s) ≡ 32) × (length (now t) ≡ 32) ⌝ }
     ensures { λ r. ⌜ r ≡ recordWell (records (now (site .entry))) (now (s .entry), now (t .entry)) ⌝ }
 {
-    match octets::get_u8(s, 0) {
-        ACCESS_ZONE => zone_well(t),
-        ACCESS_POINT => point_well(site, index, s, t),
-        ACCESS_CREDENTIAL => credential_well(site, index, t),
-        _ => is_clear(t, 0, 32),
+    match record_kind_of(s) {
+        RecordKind::OfZone => zone_well(t),
+        RecordKind::OfPoint => point_well(site, index, s, t),
+        RecordKind::OfRule => is_clear(t, 0, RECORD_SIZE),
+        RecordKind::OfCredential => credential_well(site, index, t),
+        RecordKind::OfFactor => is_clear(t, 0, RECORD_SIZE),
+        RecordKind::OfUnknown => is_clear(t, 0, RECORD_SIZE),
     }
 }
 
@@ -80,11 +98,10 @@ pub fn is_well_formed(site: &[u8], index: &[u16], state: &[u8]) -> bool
     let n = octets::group_count(site);
     let mut i = 0;
     while i < n {
-        let well = record_well(site, index, octets::group(site, i), octets::group(state, i));
-        i += 1;
-        if !well {
+        if !record_well(site, index, octets::group(site, i), octets::group(state, i)) {
             return false;
         }
+        i += 1;
     }
     true
 }

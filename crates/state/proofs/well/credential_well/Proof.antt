@@ -1,4 +1,4 @@
--- Each field in its turn.
+-- The fields of a credential's state record: each test is the definition's.
 use borrow.Author.Needs.{needs}
 use Rattle.model.specs.State.{credentialWell}
 use Rattle.state.proofs.well.credential_well.Statement.{statement}
@@ -10,6 +10,4 @@ credential-well-spec =
     tie.close
     (tie.spec
     (λ c κs. search needs) (λ c κs. search needs) (λ c κs. search needs) (λ c κs. search needs) (λ c κs. search needs)
-    (λ c.
-    let t = c .before .before in
-    rw (c .none-or-exists2 .ensures, c .before .none-or-exists .ensures, t .is-clear2 .ensures, t .before .is-clear .ensures, t .before .before .before .credential-state-of .ensures)))
+    (λ c. cc))
