@@ -16,17 +16,17 @@ use Rattle.model.specs.declared.Validity.{Validity}
 use Rattle.model.specs.declared.Authorization.{Authorization}
 use Rattle.checks.specs.Moves.{NEXT}
 
--- An event of a step: neither NEXT nor 1.
-abbrev pub Denies : ℕ → Type 0
-Denies x = (eqb x NEXT ≡ false) × (eqb x n.granted ≡ false)
+-- An event that ends the checks before step 12: neither NEXT nor 1.
+abbrev pub Ending : ℕ → Type 0
+Ending x = (eqb x NEXT ≡ false) × (eqb x n.granted ≡ false)
 
 -- Steps, by what they make of the event that follows.
 pub data Steps (f : ℕ → ℕ) : Type 0 where
-  ends : (x : ℕ) → Denies x → ((next : ℕ) → f next ≡ x) → Steps f
+  ends : (x : ℕ) → Ending x → ((next : ℕ) → f next ≡ x) → Steps f
   goes : ((next : ℕ) → f next ≡ next) → Steps f
 
 -- One step before others.
-pub step : (b : Bool) (x : ℕ) (f : ℕ → ℕ) → Denies x → Steps f → Steps (λ next. if b then x else f next)
+pub step : (b : Bool) (x : ℕ) (f : ℕ → ℕ) → Ending x → Steps f → Steps (λ next. if b then x else f next)
 step true x f d s = ends x d (λ next. refl)
 step false x f d s = s
 
@@ -38,21 +38,21 @@ joined f g (goes h) (goes i) = goes (λ next. h (g next) ∙ i next)
 
 -- ── the steps of the order
 
-disabled-factor : (d : ℕ) → Denies (disabledFactor d)
+disabled-factor : (d : ℕ) → Ending (disabledFactor d)
 unfolding disabledFactor
 disabled-factor d =
-    if-holds Denies (eqb d n.factor-disabled) _ _ (refl, refl)
-    (if-holds Denies (eqb d n.factor-lost) _ _ (refl, refl)
-    (if-holds Denies (eqb d n.factor-stolen) _ _ (refl, refl)
-    (if-holds Denies (eqb d n.factor-damaged) _ _ (refl, refl) (refl, refl))))
+    if-holds Ending (eqb d n.factor-disabled) _ _ (refl, refl)
+    (if-holds Ending (eqb d n.factor-lost) _ _ (refl, refl)
+    (if-holds Ending (eqb d n.factor-stolen) _ _ (refl, refl)
+    (if-holds Ending (eqb d n.factor-damaged) _ _ (refl, refl) (refl, refl))))
 
 -- Steps 1 to 4.
-authentication-steps : (k : Authentication) → Denies (k .«disabled_event») → Steps (authentication k)
+authentication-steps : (k : Authentication) → Ending (k .«disabled_event») → Steps (authentication k)
 authentication-steps k d =
     step (k .locked) _ _ (refl, refl)
     (step (k .overdue) _ _ (refl, refl)
     (step (k .error) _ _ (refl, refl)
-    (step (k .unmatched) _ _ (if-holds Denies (k .waiting) _ _ (refl, refl) (refl, refl))
+    (step (k .unmatched) _ _ (if-holds Ending (k .waiting) _ _ (refl, refl) (refl, refl))
     (step (k .disabled) _ _ d
     (step (k .«first_of_two») _ _ (refl, refl)
     (goes (λ next. refl)))))))
@@ -77,7 +77,7 @@ authorization-steps k =
     (step (k .threat) _ _ (refl, refl)
     (step (k .negative) _ _ (refl, refl)
     (step (k .«no_positive») _ _
-    (if-holds Denies (k .«positive_located») _ _ (refl, refl) (if-holds Denies (k .«into_zone») _ _ (refl, refl) (refl, refl)))
+    (if-holds Ending (k .«positive_located») _ _ (refl, refl) (if-holds Ending (k .«into_zone») _ _ (refl, refl) (refl, refl)))
     (step (k .«hard_passback») _ _ (refl, refl)
     (step (k .«at_lower_limit») _ _ (refl, refl)
     (step (k .«at_upper_limit») _ _ (refl, refl)

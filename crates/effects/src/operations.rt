@@ -3,67 +3,53 @@ ghost use mathlib.Core.Path.{_≡_};
 ghost use Rattle.model.specs.Numbers.{not-refused};
 ghost use Rattle.model.specs.Step.{noPoint, noCredential, noCount, noAnswer, unchanged, refuse, countOutcome, adjusted, adjustOutcome, disableAfter, disableOutcome, locks, serviceAfter, serviceOutcome};
 use crate::words::next_tag;
-use checks::words::choose_byte;
-use checks::words::choose_long;
-use checks::words::choose_short;
+use conditions::words::choose_byte;
+use conditions::words::choose_credential;
+use conditions::words::choose_long;
+use conditions::words::choose_short;
 use model::Answer;
 use model::CountWrite;
+use model::CredentialId;
 use model::CredentialState;
 use model::CredentialWrite;
 use model::Entry;
 use model::Outcome;
+use model::PointId;
 use model::PointState;
 use model::PointWrite;
+use model::ZoneId;
 use model::numbers::ARGUMENT_LOCK;
 use model::numbers::FIRST_NEGATIVE;
 use model::numbers::LARGEST_COUNT;
 use model::numbers::LOCKOUT_OTHER;
 use model::numbers::LOCKOUT_RELINQUISHED;
 use model::numbers::MODULUS;
-use model::numbers::NEVER;
 use model::numbers::NO_EVENT;
 use model::numbers::NONE;
 use model::numbers::NOT_REFUSED;
 use model::numbers::REFUSED_COUNT;
+use records::state::fresh_credential;
+use records::state::fresh_point;
 
 // ---- what an outcome leaves unwritten
 
 fn no_point() -> PointWrite
     ensures { λ r. ⌜ r ≡ noPoint ⌝ }
 {
-    let state = PointState {
-        tag: 0,
-        failures: 0,
-        locked: false,
-        lock_time: 0,
-        first_failure: 0,
-        waiting_credential: NONE,
-        waiting_since: 0,
-    };
     PointWrite {
         written: false,
-        instance: NONE,
-        state: state,
+        instance: PointId(NONE),
+        state: fresh_point(),
     }
 }
 
 fn no_credential() -> CredentialWrite
     ensures { λ r. ⌜ r ≡ noCredential ⌝ }
 {
-    let state = CredentialState {
-        uses: 0,
-        days: 0,
-        last_use: NEVER,
-        zone: NONE,
-        entered: NEVER,
-        last_event: 0,
-        disable: 0,
-        last_point: NONE,
-    };
     CredentialWrite {
         written: false,
-        instance: NONE,
-        state: state,
+        instance: CredentialId(NONE),
+        state: fresh_credential(0, 0, 0),
     }
 }
 
@@ -72,7 +58,7 @@ fn no_count() -> CountWrite
 {
     CountWrite {
         written: false,
-        instance: NONE,
+        instance: ZoneId(NONE),
         count: 0,
     }
 }
@@ -85,7 +71,7 @@ fn no_answer(refusal: u8, tag: u32, count: u32) -> Answer
         marks: 0,
         refusal: refusal,
         tag: tag,
-        credential: NONE,
+        credential: CredentialId(NONE),
         count: count,
     }
 }
@@ -123,17 +109,14 @@ pub fn out_of_service_outcome(tag: u32, count: u32) -> Outcome
 pub fn count_outcome(e: Entry, n: u32) -> Outcome
     ensures { λ r. ⌜ r ≡ countOutcome e n ⌝ }
 {
-    Outcome {
-        answer: no_answer(NOT_REFUSED, 0, n),
-        point: no_point(),
-        credential: no_credential(),
-        zone_to: CountWrite {
-            written: true,
-            instance: e.instance,
-            count: n,
-        },
-        zone_from: no_count(),
-    }
+    let zone = CountWrite {
+        written: true,
+        instance: ZoneId(e.instance),
+        count: n,
+    };
+    let mut o = unchanged(no_answer(NOT_REFUSED, 0, n));
+    o.zone_to = zone;
+    o
 }
 
 // A count and a signed amount together, below zero becoming 0.
@@ -164,42 +147,28 @@ pub fn adjust_outcome(e: Entry, n: u32) -> Outcome
 
 // ---- operation 4: a credential's disable
 
-fn disable_after(c: CredentialState, disable: u8) -> CredentialState
-    ensures { λ r. ⌜ r ≡ disableAfter c disable ⌝ }
+fn disable_after(held: CredentialState, disable: u8) -> CredentialState
+    ensures { λ r. ⌜ r ≡ disableAfter held disable ⌝ }
 {
-    CredentialState {
-        uses: c.uses,
-        days: c.days,
-        last_use: c.last_use,
-        zone: c.zone,
-        entered: c.entered,
-        last_event: c.last_event,
-        disable: disable,
-        last_point: c.last_point,
-    }
+    let mut c = held;
+    c.disable = disable;
+    c
 }
 
 pub fn disable_outcome(e: Entry, c: CredentialState) -> Outcome
     ensures { λ r. ⌜ r ≡ disableOutcome e c ⌝ }
 {
-    Outcome {
-        answer: Answer {
-            event: NO_EVENT,
-            marks: 0,
-            refusal: NOT_REFUSED,
-            tag: 0,
-            credential: e.instance,
-            count: 0,
-        },
-        point: no_point(),
-        credential: CredentialWrite {
-            written: true,
-            instance: e.instance,
-            state: disable_after(c, e.argument),
-        },
-        zone_to: no_count(),
-        zone_from: no_count(),
-    }
+    let named = CredentialId(e.instance);
+    let mut answer = no_answer(NOT_REFUSED, 0, 0);
+    answer.credential = named;
+    let credential = CredentialWrite {
+        written: true,
+        instance: named,
+        state: disable_after(c, e.argument),
+    };
+    let mut o = unchanged(answer);
+    o.credential = credential;
+    o
 }
 
 // ---- operation 5: a point in service or not
@@ -211,40 +180,30 @@ fn is_lock(e: Entry) -> bool
     e.argument == ARGUMENT_LOCK
 }
 
-fn service_after(e: Entry, p: PointState) -> PointState
-    ensures { λ r. ⌜ r ≡ serviceAfter e p ⌝ }
+fn service_after(e: Entry, held: PointState) -> PointState
+    ensures { λ r. ⌜ r ≡ serviceAfter e held ⌝ }
 {
     let lock = is_lock(e);
-    PointState {
-        tag: next_tag(p.tag),
-        failures: choose_byte(lock, p.failures, 0),
-        locked: lock,
-        lock_time: choose_long(lock, e.time, p.lock_time),
-        first_failure: p.first_failure,
-        waiting_credential: choose_long(lock, NONE, p.waiting_credential),
-        waiting_since: p.waiting_since,
-    }
+    let mut p = held;
+    p.tag = next_tag(held.tag);
+    p.failures = choose_byte(lock, held.failures, 0);
+    p.locked = lock;
+    p.lock_time = choose_long(lock, e.time, held.lock_time);
+    p.waiting_credential = choose_credential(lock, CredentialId(NONE), held.waiting_credential);
+    p
 }
 
 pub fn service_outcome(e: Entry, p: PointState, n: u32) -> Outcome
     ensures { λ r. ⌜ r ≡ serviceOutcome e p n ⌝ }
 {
-    Outcome {
-        answer: Answer {
-            event: choose_short(is_lock(e), LOCKOUT_OTHER, LOCKOUT_RELINQUISHED),
-            marks: 0,
-            refusal: NOT_REFUSED,
-            tag: next_tag(p.tag),
-            credential: NONE,
-            count: n,
-        },
-        point: PointWrite {
-            written: true,
-            instance: e.instance,
-            state: service_after(e, p),
-        },
-        credential: no_credential(),
-        zone_to: no_count(),
-        zone_from: no_count(),
-    }
+    let mut answer = no_answer(NOT_REFUSED, next_tag(p.tag), n);
+    answer.event = choose_short(is_lock(e), LOCKOUT_OTHER, LOCKOUT_RELINQUISHED);
+    let point = PointWrite {
+        written: true,
+        instance: PointId(e.instance),
+        state: service_after(e, p),
+    };
+    let mut o = unchanged(answer);
+    o.point = point;
+    o
 }

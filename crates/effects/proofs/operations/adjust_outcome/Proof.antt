@@ -1,3 +1,4 @@
+-- A sum above the largest count is refused; any other has four bytes.
 use borrow.Author.Needs.{needs}
 use borrow.Author.Tests.{le-ltb, lt-ltb}
 use Rattle.model.specs.Step.{adjustOutcome}

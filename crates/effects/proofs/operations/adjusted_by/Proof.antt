@@ -1,3 +1,4 @@
+-- An amount from 2,147,483,648 on is taken off, down to 0; a smaller one is added.
 use borrow.Author.Needs.{needs}
 use borrow.Author.Tests.{le-leb, lt-leb}
 use native.Mathlib.Omega.{arith}

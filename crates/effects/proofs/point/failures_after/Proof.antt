@@ -1,3 +1,4 @@
+-- Below the most the failures have one byte.
 use borrow.Author.Needs.{needs}
 use borrow.Author.Tests.{le-leb, lt-leb}
 use Rattle.effects.proofs.point.failures_after.Statement.{statement}

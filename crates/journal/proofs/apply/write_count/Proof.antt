@@ -14,7 +14,7 @@ store-count-requires c κs =
     let p = c .before .before .before .before in
     let a = p .before .before .args in
     let e : p .write-place .result ≡ At (c .before .before .i .given .0 .0) = cc in
-    write-below (a .w .written) (a .w .instance) (length (now (a .state)) / 32) _ (a .place) (sym (p .write-place .ensures) ∙ e)
+    write-below (a .w .written) (a .w .instance .0) (length (now (a .state)) / 32) _ (a .place) (sym (p .write-place .ensures) ∙ e)
 
 returns : tie.Need-returns
 unfolding written
