@@ -10,6 +10,7 @@ ghost use lib.Dec.{eqb, ltb};
 ghost use lib.ListN.{length, getD};
 ghost use Rattle.model.specs.Words.{if_then_else_, bit};
 ghost use Rattle.octets.specs.Octets.{field};
+ghost use Rattle.model.specs.Numbers.{access-rule};
 ghost use Rattle.model.specs.Site as Site;
 ghost use Rattle.model.specs.Site.{records};
 ghost use Rattle.index.specs.Index as Index;
@@ -31,7 +32,7 @@ use records::site::role_of;
 // last records come last.
 pub const MOST_RECORDS: usize = 2000;
 
-pub const BUCKETS: usize = 1024;
+const BUCKETS: usize = 1024;
 
 const KIND_CLASSES: usize = 8;
 
@@ -156,18 +157,22 @@ fn class_of_rule(part: &[u8]) -> usize
     rule_class(rights, location_kind_of(part), location_of(part))
 }
 
-fn slot_of(part: &[u8]) -> Slot
-    requires { ⌜ length (now part) ≡ 32 ⌝ }
+fn slot_of_rule(part: &[u8]) -> Slot
+    requires { ⌜ (length (now part) ≡ 32) × (Site.kind (now part) ≡ access-rule) ⌝ }
+    ensures { λ r. ⌜ Slotted (now (part .entry)) r ⌝ }
+{
+    let class = class_of_rule(part);
+    Slot {
+        bucket: class / TAGS,
+        mark: (1 as u16) << (class % TAGS),
+    }
+}
+
+fn slot_of_other(part: &[u8]) -> Slot
+    requires { ⌜ (length (now part) ≡ 32) × (Site.kind (now part) ≡ access-rule → ⊥) ⌝ }
     ensures { λ r. ⌜ Slotted (now (part .entry)) r ⌝ }
 {
     let kind = kind_of(part);
-    if kind == ACCESS_RULE {
-        let class = class_of_rule(part);
-        return Slot {
-            bucket: class / TAGS,
-            mark: (1 as u16) << (class % TAGS),
-        };
-    }
     if kind == AUTHENTICATION_FACTOR {
         return Slot {
             bucket: factor_bucket(format_of(part), part, FACTOR_VALUE, owner_of(part)),
@@ -214,16 +219,14 @@ fn put_before(chain: u16, mark: u16, i: u16) -> u16
     i + (mark | (chain / CHAIN_SCALE)) * CHAIN_SCALE
 }
 
-// The i-th record is put before the later ones of its bucket.
-pub fn insert(site: &[u8], index: &mut [u16], i: usize)
+// The i-th record is put at the head of its slot's bucket, and of its kind's class.
+fn put(site: &[u8], index: &mut [u16], i: usize, slot: Slot)
     requires { ⌜ IndexedFrom (i + 1) (records (now site)) (now index) ⌝ }
-    requires { ⌜ i < length (records (now site)) ⌝ }
+    requires { ⌜ (i < length (records (now site))) × Slotted (getD (records (now site)) i []) slot ⌝ }
     ensures { λ _. ⌜ IndexedFrom i (records (now (site .entry))) (now (index .exit)) ⌝ }
 {
-    let part = record_at(site, i);
-    let slot = slot_of(part);
     let head = MOST_RECORDS + slot.bucket;
-    let kind_head = MOST_RECORDS + BUCKETS + kind_class(kind_of(part));
+    let kind_head = MOST_RECORDS + BUCKETS + kind_class(kind_of(record_at(site, i)));
     let kind_last = kind_head + KIND_CLASSES;
     let last = last_after(
         index[kind_head],
@@ -236,6 +239,20 @@ pub fn insert(site: &[u8], index: &mut [u16], i: usize)
     index[head] = put_before(chain, slot.mark, i as u16);
     index[kind_head] = i as u16;
     index[kind_last] = last;
+}
+
+// The i-th record is put before the later ones of its bucket. Rules are put by themselves, so that no work is left for the mark of the others.
+pub fn insert(site: &[u8], index: &mut [u16], i: usize)
+    requires { ⌜ IndexedFrom (i + 1) (records (now site)) (now index) ⌝ }
+    requires { ⌜ i < length (records (now site)) ⌝ }
+    ensures { λ _. ⌜ IndexedFrom i (records (now (site .entry))) (now (index .exit)) ⌝ }
+{
+    let part = record_at(site, i);
+    if kind_of(part) == ACCESS_RULE {
+        put(site, index, i, slot_of_rule(part));
+        return;
+    }
+    put(site, index, i, slot_of_other(part));
 }
 
 fn wide(x: u16) -> usize

@@ -25,7 +25,7 @@ abbrev carried : Asked → ℕ → Verdict → Verdict → ℕ → List (List �
 carried a c v rest k ss = both v (both (findings a (keep (inClass c) ss)) rest)
 
 -- A walk for the rules of a class from one verdict on: what it found, and the chain that is left.
-pub record Walk (a : Asked) (c : ℕ) (ss : List (List ℕ)) (from v : Verdict) (chain : ℕ) : Type 0 where
+pub record ClassWalk (a : Asked) (c : ℕ) (ss : List (List ℕ)) (from v : Verdict) (chain : ℕ) : Type 0 where
   pub at : Chain (c / tags) ss chain
   pub left : (rest : Verdict) → carried a c from rest 0 ss ≡ findings a ss → carried a c v rest (recordOf chain) (drop (recordOf chain) ss) ≡ findings a ss
 
@@ -59,7 +59,7 @@ module _ (a : Asked) (c : ℕ) (ss : List (List ℕ)) where
       go false p = rw (both-comm v one, both-assoc one, p) (found-at a ss i h)
 
   module _ (index : List ℕ) (x : IndexedFrom 0 ss index) where
-    pub walk-start : (v : Verdict) {chain : ℕ} → c < rule-classes → chain ≡ head (c / tags) index → Walk a c ss v v chain
+    pub walk-start : (v : Verdict) {chain : ℕ} → c < rule-classes → chain ≡ head (c / tags) index → ClassWalk a c ss v v chain
     walk-start v h e =
         let l : c / tags < buckets = omega arith in
         rw e (record {
@@ -67,8 +67,8 @@ module _ (a : Asked) (c : ℕ) (ss : List (List ℕ)) where
           left = λ rest p. rw (head-record 0 ss index x (c / tags) l) (onward (carried a c v rest) (inClass c) (passes v rest) ss bucketOf (c / tags) has 0 p);
         })
 
-    pub walk-turn : {from u v : Verdict} {chain : ℕ} (next : ℕ) → Walk a c ss from v chain → recordOf chain < length ss
-        → u ≡ both v (findings a (getD ss (recordOf chain) [] ∷ [])) → next ≡ link (recordOf chain) index → Walk a c ss from u next
+    pub walk-turn : {from u v : Verdict} {chain : ℕ} (next : ℕ) → ClassWalk a c ss from v chain → recordOf chain < length ss
+        → u ≡ both v (findings a (getD ss (recordOf chain) [] ∷ [])) → next ≡ link (recordOf chain) index → ClassWalk a c ss from u next
     walk-turn {from} {u} {v} {chain} next y h t e =
         let i = recordOf chain in
         let b : bucketOf (getD ss i []) ≡ c / tags = y .at .here h in
@@ -79,7 +79,7 @@ module _ (a : Asked) (c : ℕ) (ss : List (List ℕ)) where
         })
 
   -- As long as the chain may hold a rule of the class, a record is left; then none of the class is.
-  module _ {from v : Verdict} {chain : ℕ} (y : Walk a c ss from v chain) where
+  module _ {from v : Verdict} {chain : ℕ} (y : ClassWalk a c ss from v chain) where
     pub walk-goes-on : bit (chain / chain-scale) (c % tags) ≡ true → recordOf chain < length ss
     walk-goes-on e =
         omega (arith, length-drop (recordOf chain) ss, some-left (c / tags) (c % tags) (drop (recordOf chain) ss) (rw (y .at .tagged) at e))

@@ -1,53 +1,29 @@
--- The stores put the record before the others of its bucket, and of its kind's class.
-use Prim.Native.Nat.{_+_, _*_, _/_, _%_}
-use mathlib.Core.Path.{_≡_, _∙_, ap}
-use native.Mathlib.Omega.{arith}
+-- By whether the record is a rule.
+use mathlib.Core.Path.{sym, _∙_, ap}
 use borrow.Author.Needs.{needs}
-use lib.Bits.{bitOr}
-use lib.ListN.{length-set}
-use denote.Ref.{now}
-use Rattle.model.specs.Site.{records}
-use Rattle.index.specs.Index.{most-records, buckets, kind-classes, chain-scale, bucketOf, markOf, kindClass, head}
-use Rattle.index.proofs.Building.{inserted}
+use Rattle.model.specs.Site.{kind}
 use Rattle.index.proofs.insert.Statement.{statement}
 use Rattle.index.proofs.insert.Tie as tie
 
-returns : tie.Need-returns
-returns c =
-    let l = c .before .before .last-after in
-    let n = c .before .before .before .record-count .ensures in
-    let k = c .before .before .before .before .before .before in
-    let g = k .before in
-    let b = g .before .before in
-    let r = b .before .record-at .ensures .0 in
-    let s = b .before .before .before .before in
-    let i = s .args .i in
-    let x = now (s .args .index) in
-    let o = b .slot-of .result in
-    let z : most-records + buckets + kind-classes + k .kind-class .result ≡ most-records + buckets + k .kind-class .result + kind-classes = omega arith in
-    let f = c .put-before .ensures ∙ ap (λ w. i + bitOr w (head (o .bucket) x / chain-scale) * chain-scale) (b .slot-of .ensures .mark ∙ ap markOf r) in
-    inserted i (records (now (s .args .site))) x (s .pre .1) (o .bucket) (b .slot-of .ensures .bucket ∙ ap bucketOf r) (b .slot-of .ensures .within)
-    (k .kind-class .result) (k .kind-class .ensures .0 ∙ ap (λ w. w % kind-classes) (g .kind-of .ensures) ∙ ap kindClass r) (k .kind-class .ensures .1) (s .pre .0)
-    (c .put-before .result) f (l .result) (rw (← n, z) (l .ensures))
+put-requires : tie.Need-put-requires
+put-requires c κs =
+    let r = c .before .before .before .before in
+    let s = r .before .before .before in
+    (s .pre .0, (s .pre .1, rw (← r .record-at .ensures .0) (c .slot-of-rule .ensures)))
+
+put-requires-2 : tie.Need-put-requires-2
+put-requires-2 c κs =
+    let r = c .before .before .before .before in
+    let s = r .before .before .before in
+    (s .pre .0, (s .pre .1, rw (← r .record-at .ensures .0) (c .slot-of-other .ensures)))
 
 pub insert-spec : {M : Type 1} → statement M
 insert-spec =
     tie.close
     (tie.spec
-    (λ c κs. search needs) (λ c κs. search needs)
-    (λ c. search needs) (λ c. search needs)
-    (λ c κs. search needs) (λ c κs. search needs)
-    (λ c. search needs) (λ c. search needs) (λ c. search needs) (λ c. search needs) (λ c. search needs) (λ c. search needs)
-    (λ c κs. search needs)
+    (λ c κs. search needs) (λ c κs. search needs) (λ c κs. search needs)
+    put-requires
     (λ c. search needs) (λ c. search needs)
     (λ c κs. search needs)
-    (λ c. search needs) (λ c. search needs) (λ c. search needs) (λ c. search needs) (λ c. search needs)
-    (λ c κs. search needs)
-    (λ c. search needs)
-    (λ c. simp length-set (omega arith))
-    (λ c. search needs) (λ c. search needs)
-    (λ c. simp length-set (omega arith))
-    (λ c. search needs)
-    (λ c. simp length-set (omega arith))
-    (λ c. search needs)
-    returns)
+    put-requires-2
+    (λ c. search needs) (λ c. search needs))

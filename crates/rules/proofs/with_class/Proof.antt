@@ -10,12 +10,12 @@ use denote.Ref.{now}
 use Rattle.model.specs.Site.{records}
 use Rattle.index.specs.Index.{recordOf}
 use Rattle.rules.specs.Walk.{findings, both}
-use Rattle.rules.proofs.Chains.{Walk, walk-start, walk-turn, walk-goes-on, walk-end}
+use Rattle.rules.proofs.Chains.{ClassWalk, walk-start, walk-turn, walk-goes-on, walk-end}
 use Rattle.rules.proofs.with_class.Statement.{statement}
 use Rattle.rules.proofs.with_class.Tie as tie
 
 abbrev Inv-loop : tie.InvT-loop
-Inv-loop site index class a v₀ links₀ chain₀ v links chain = (links ≤ 32) × Walk a class (records site) v₀ v chain
+Inv-loop site index class a v₀ links₀ chain₀ v links chain = (links ≤ 32) × ClassWalk a class (records site) v₀ v chain
 
 abbrev μ-loop : tie.MeasureT-loop
 μ-loop site index class a v₀ links₀ chain₀ v links chain = 32 - links
