@@ -46,8 +46,7 @@ pub fn zone_to_at(site: &[u8], index: &[u16], place: Place) -> Place
     requires { ⌜ Indexed (now site) (now index) ⌝ }
     ensures { λ r. ⌜ r ≡ toAt place (now (site .entry)) ⌝ }
 {
-    let point = records::site::point_of(part_at(site, place));
-    seek_zone(site, index, point.zone_to)
+    seek_zone(site, index, records::site::zone_to_of(part_at(site, place)))
 }
 
 // The factor that was read, at a point that waits for a credential or for nobody.

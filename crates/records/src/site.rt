@@ -70,6 +70,27 @@ pub fn zone_of(part: &[u8]) -> Zone
     }
 }
 
+pub fn zone_to_of(part: &[u8]) -> ZoneId
+    requires { ⌜ Part (now part) ⌝ }
+    ensures { λ r. ⌜ r ≡ pointOf (now (part .entry)) .«zone_to» ⌝ }
+{
+    ZoneId(reference_at(part, layout::POINT_ZONE_TO))
+}
+
+pub fn zone_from_of(part: &[u8]) -> ZoneId
+    requires { ⌜ Part (now part) ⌝ }
+    ensures { λ r. ⌜ r ≡ pointOf (now (part .entry)) .«zone_from» ⌝ }
+{
+    ZoneId(reference_at(part, layout::POINT_ZONE_FROM))
+}
+
+pub fn most_failures_of(part: &[u8]) -> u8
+    requires { ⌜ Part (now part) ⌝ }
+    ensures { λ r. ⌜ r ≡ pointOf (now (part .entry)) .«most_failures» ⌝ }
+{
+    byte_at(part, layout::POINT_MOST_FAILURES)
+}
+
 pub fn point_of(part: &[u8]) -> Point
     requires { ⌜ Part (now part) ⌝ }
     ensures { λ r. ⌜ r ≡ pointOf (now (part .entry)) ⌝ }
@@ -82,10 +103,10 @@ pub fn point_of(part: &[u8]) -> Point
         muster: flag_of(part, layout::POINT_FLAG_MUSTER),
         mode: byte_at(part, layout::POINT_MODE),
         factors_wanted: byte_at(part, layout::POINT_FACTORS_WANTED),
-        zone_to: ZoneId(reference_at(part, layout::POINT_ZONE_TO)),
-        zone_from: ZoneId(reference_at(part, layout::POINT_ZONE_FROM)),
+        zone_to: zone_to_of(part),
+        zone_from: zone_from_of(part),
         threat_level: byte_at(part, layout::POINT_THREAT_LEVEL),
-        most_failures: byte_at(part, layout::POINT_MOST_FAILURES),
+        most_failures: most_failures_of(part),
         factor_timeout: short_at(part, layout::POINT_FACTOR_TIMEOUT),
         lockout_relinquish: long_at(part, layout::POINT_LOCKOUT_RELINQUISH),
         failure_window: long_at(part, layout::POINT_FAILURE_WINDOW),

@@ -23,16 +23,17 @@ use records::site::instance_of;
 use records::site::is_everywhere;
 use records::site::location_kind_of;
 use records::site::location_of;
-use records::site::point_of;
 use records::site::record_kind_of;
+use records::site::zone_from_of;
+use records::site::zone_to_of;
 
 fn zones_exist(site: &[u8], index: &[u16], part: &[u8]) -> bool
     requires { ⌜ Indexed (now site) (now index) ⌝ }
     requires { ⌜ length (now part) ≡ 32 ⌝ }
     ensures { λ r. ⌜ r ≡ namesExistAs OfPoint (records (now (site .entry))) (now (part .entry)) ⌝ }
 {
-    let p = point_of(part);
-    none_or_zone_exists(site, index, p.zone_to) & none_or_zone_exists(site, index, p.zone_from)
+    none_or_zone_exists(site, index, zone_to_of(part))
+        & none_or_zone_exists(site, index, zone_from_of(part))
 }
 
 // In range the location kinds are those of zone and point.

@@ -10,7 +10,7 @@ use model::layout;
 use model::numbers::LARGEST_DISABLE;
 use model::numbers::NONE;
 use model::numbers::RECORD_SIZE;
-use records::site::point_of;
+use records::site::most_failures_of;
 use records::site::record_kind_of;
 use records::state::credential_state_of;
 use records::state::locked_byte_of;
@@ -42,7 +42,6 @@ fn point_well(site: &[u8], index: &[u16], s: &[u8], t: &[u8]) -> bool
     requires { ⌜ (length (now s) ≡ 32) × (length (now t) ≡ 32) ⌝ }
     ensures { λ r. ⌜ r ≡ pointWell (records (now (site .entry))) (now (s .entry)) (now (t .entry)) ⌝ }
 {
-    let point = point_of(s);
     let p = point_state_of(t);
     (locked_byte_of(t) <= 1)
         & is_clear(
@@ -53,7 +52,7 @@ fn point_well(site: &[u8], index: &[u16], s: &[u8], t: &[u8]) -> bool
         & is_clear(t, layout::POINT_STATE_SPARE, layout::POINT_STATE_SPARE_SIZE)
         & none_or_credential_exists(site, index, p.waiting_credential)
         & (!p.locked | (p.waiting_credential.0 == NONE))
-        & failures_well(p.failures, point.most_failures)
+        & failures_well(p.failures, most_failures_of(s))
 }
 
 fn credential_well(site: &[u8], index: &[u16], t: &[u8]) -> bool

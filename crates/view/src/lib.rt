@@ -6,12 +6,12 @@ ghost use Rattle.model.specs.Site.{records, lookup, findIn};
 ghost use Rattle.model.specs.Calls.{checkSite, freshResult, freshState, checkState, runResult, runJournal};
 ghost use Rattle.site.specs.Factor.{fits};
 ghost use Rattle.view.specs.Object.{kindOf, instanceOf};
+use model::CredentialId;
+use model::PointId;
 use model::Returned;
-use site::CredentialId;
-use site::PointId;
+use model::RightsId;
+use model::ZoneId;
 use site::Presented;
-use site::RightsId;
-use site::ZoneId;
 
 // What a record may be looked up by.
 pub enum Object {

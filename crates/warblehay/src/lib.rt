@@ -5,10 +5,10 @@ ghost use Rattle.model.specs.Calls.{number, checkSite, freshState, checkState, 
 ghost use Rattle.site.specs.Place.{placeOf};
 ghost use Rattle.warblehay.specs.Numbered.{numberedFresh, numberedRun};
 ghost use Rattle.warblehay.specs.PlaceNumber.{placeNumber};
-use site::CredentialId;
+use model::CredentialId;
+use model::PointId;
+use model::ZoneId;
 use site::Place;
-use site::PointId;
-use site::ZoneId;
 
 // The place of a record that is not there.
 pub const NOWHERE: usize = 18446744073709551615;
