@@ -1,6 +1,6 @@
 -- Searches through a list, one by one or along the chain of a bucket: what is left from the i-th element on decides. A loop that searches has its facts
 -- from here, whatever it searches for.
-use Prim.Native.Nat.{ℕ, suc, _+_, _≤_, _<_}
+use Prim.Native.Nat.{ℕ, suc, _+_, _-_, _≤_, _<_}
 use mathlib.Core.Path.{_≡_, refl, sym, _∙_}
 use mathlib.Core.List.{List, [], _∷_}
 use mathlib.Core.Bool.{Bool, true, false, not}
@@ -12,7 +12,8 @@ use lib.ListN.{length, drop, getD, drop-of-length-le}
 use lib.Seq.{drop-cons}
 use Rattle.model.specs.Words.{any, all}
 use Rattle.model.specs.Site.{kind, findIn}
-use Rattle.index.specs.Index.{buckets, bucketOf, recordOf, head, link, after, IndexedFrom}
+use Rattle.index.specs.Index as Index
+use Rattle.index.specs.Index.{most-records, index-size, bucketOf, recordOf, head, link, after, IndexedFrom}
 use Rattle.index.proofs.Walks.{Walk, walk-from, walk-on, walk-past, after-later, fewer-links}
 use Rattle.site.specs.Place.{placeFrom}
 use Rattle.site.specs.declared.Place.the-variants.{At, Nothing}
@@ -71,33 +72,7 @@ pub record Chain {A : Type 0} (f : ℕ → List (List ℕ) → A) (b k : ℕ) (w
   pub few : links ≤ i
   pub walk : Walk f b k w ss (ltb links long-chain) i
 
--- Only records of the bucket pass the test, and only records of the kind.
-module _ {A : Type 0} {q : List ℕ → Bool} {f : ℕ → List (List ℕ) → A} {hit : ℕ → List ℕ → A} {miss : A} (S : Search q f hit miss)
-    (b : ℕ) (has : (s : List ℕ) → q s ≡ true → bucketOf s ≡ b) {k : ℕ} {ss : List (List ℕ)} {index : List ℕ} (x : IndexedFrom k ss index) where
-  -- From the first record of the bucket, or from the one after the k-th, which is of the bucket.
-  pub chain-first : {n m i : ℕ} → n ≡ length ss → m ≡ b → m < buckets → i ≡ recordOf (head m index) → Chain f b k (f k (drop k ss)) ss n 0 i
-  chain-first {n} {m} {i} c o l e = record { count = c; few = omega arith; walk = walk-from f q (S .passes) ss b has k index x true i (rw o at l) (rw o at e) }
-
-  pub chain-next : {n j : ℕ} → n ≡ length ss → k < length ss → bucketOf (getD ss k []) ≡ b → j ≡ recordOf (link k index) → Chain f b k (f (k + 1) (drop (k + 1) ss)) ss n 0 j
-  chain-next {n} {j} c l h e = record { count = c; few = omega arith; walk = walk-on f q (S .passes) ss b has k index x true k j l (omega arith) h refl e }
-
-  module _ (kd : ℕ) (kinds : (s : List ℕ) → q s ≡ true → kind s ≡ kd) {w : A} {n links i : ℕ} (y : Chain f b k w ss n links i) where
-    -- The record that is tried next comes later.
-    pub chain-later : {j : ℕ} → i < n → j ≡ after (ltb links long-chain) kd i ss index → i < j
-    chain-later h e =
-        let l : i < length ss = omega arith in
-        omega (arith, e, after-later k ss index x (ltb links long-chain) kd i (y .walk .low) l)
-
-    pub chain-pass : {s : List ℕ} {r : Bool} {j : ℕ} → i < n → s ≡ getD ss i [] → r ≡ q s → r ≡ false → j ≡ after (ltb links long-chain) kd i ss index → Chain f b k w ss n (links + 1) j
-    chain-pass {s} {r} {j} h at t m e =
-        let l : i < length ss = omega arith in
-        let p : q (getD ss i []) ≡ false = cc in record {
-          count = y .count;
-          few = omega (arith, chain-later h e);
-          walk = walk-past f q (S .passes) ss b has k index x kd kinds (ltb links long-chain) (ltb (links + 1) long-chain) i j (fewer-links links long-chain) l (y .walk) p e;
-        }
-
--- The record there passes, or there is none.
+-- The record there passes; or there is none; or the index has another to try.
 module _ {A : Type 0} {q : List ℕ → Bool} {f : ℕ → List (List ℕ) → A} {hit : ℕ → List ℕ → A} {miss : A} (S : Search q f hit miss)
     {b k : ℕ} {w : A} {ss : List (List ℕ)} {n links i : ℕ} (y : Chain f b k w ss n links i) where
   searched : Searched f w ss n i
@@ -108,3 +83,43 @@ module _ {A : Type 0} {q : List ℕ → Bool} {f : ℕ → List (List ℕ) → A
 
   pub chain-end : n ≤ i → miss ≡ w
   chain-end = searched-end S [] searched
+
+pub chain-within : {A : Type 0} {f : ℕ → List (List ℕ) → A} {b k : ℕ} {w : A} {ss : List (List ℕ)} {n links i : ℕ} {index : List ℕ}
+    → IndexedFrom k ss index → Chain f b k w ss n links i → i < n → (length index ≡ index-size) × (i < most-records) × (i < length ss)
+chain-within x y h = (x .size, omega (arith, x .few, y .count), omega (arith, y .count))
+
+-- A search that records of one bucket alone pass, all of one kind.
+pub record Bucketed {A : Type 0} (q : List ℕ → Bool) (f : ℕ → List (List ℕ) → A) (hit : ℕ → List ℕ → A) (miss : A) (b kd : ℕ) : Type 0 where
+  pub search : Search q f hit miss
+  pub buckets : (s : List ℕ) → q s ≡ true → bucketOf s ≡ b
+  pub kinds : (s : List ℕ) → q s ≡ true → kind s ≡ kd
+
+module _ {A : Type 0} {q : List ℕ → Bool} {f : ℕ → List (List ℕ) → A} {hit : ℕ → List ℕ → A} {miss : A} {b kd : ℕ} (o : Bucketed q f hit miss b kd)
+    {k : ℕ} {ss : List (List ℕ)} {index : List ℕ} (x : IndexedFrom k ss index) where
+  -- It starts at the first record of the bucket, or at the one after the k-th, which is of the bucket.
+  pub chain-first : {n m i : ℕ} → n ≡ length ss → m ≡ b → m < Index.buckets → i ≡ recordOf (head m index) → Chain f b k (f k (drop k ss)) ss n 0 i
+  chain-first {n} {m} {i} c e l h =
+      record { count = c; few = omega arith; walk = walk-from f q (o .search .passes) ss b (o .buckets) k index x true i (rw e at l) (rw e at h) }
+
+  pub chain-next : {n j : ℕ} → n ≡ length ss → k < length ss → bucketOf (getD ss k []) ≡ b → j ≡ recordOf (link k index) → Chain f b k (f (k + 1) (drop (k + 1) ss)) ss n 0 j
+  chain-next {n} {j} c l h e =
+      record { count = c; few = omega arith; walk = walk-on f q (o .search .passes) ss b (o .buckets) k index x true k j l (omega arith) h refl e }
+
+  -- The record that is tried next comes later, and the search goes on there where the record at i does not pass.
+  module _ {w : A} {n links i j : ℕ} (y : Chain f b k w ss n links i) (h : i < n) (e : j ≡ after (ltb links long-chain) kd i ss index) where
+    later : i < j
+    later =
+        let l : i < length ss = omega (arith, y .count) in
+        omega (arith, after-later k ss index x (ltb links long-chain) kd i (y .walk .low) l)
+
+    pub chain-less : n - j < n - i
+    chain-less = omega (arith, later)
+
+    pub chain-pass : {s : List ℕ} {r : Bool} → s ≡ getD ss i [] → r ≡ q s → r ≡ false → Chain f b k w ss n (links + 1) j
+    chain-pass {s} {r} at t m =
+        let l : i < length ss = omega (arith, y .count) in
+        let p : q (getD ss i []) ≡ false = cc in record {
+          count = y .count;
+          few = omega (arith, y .few, later);
+          walk = walk-past f q (o .search .passes) ss b (o .buckets) k index x kd (o .kinds) (ltb links long-chain) (ltb (links + 1) long-chain) i j (fewer-links links long-chain) l (y .walk) p e;
+        }

@@ -1,16 +1,9 @@
--- The fields of a factor: each test is the definition's.
+-- A factor's fields and spare bytes: each test is the definition's.
 use borrow.Author.Needs.{needs}
 use Rattle.model.specs.Accept.{factorInRange}
 use Rattle.site.proofs.range.factor_in_range.Statement.{statement}
 use Rattle.site.proofs.range.factor_in_range.Tie as tie
 
-returns : tie.Need-returns
-unfolding factorInRange
-returns c = cc
-
 pub factor-in-range-spec : {M : Type 1} → statement M
-factor-in-range-spec =
-    tie.close
-    (tie.spec
-    (λ c κs. search needs) (λ c κs. search needs) (λ c κs. search needs) (λ c κs. search needs) (λ c κs. search needs) (λ c κs. search needs)
-    returns)
+unfolding factorInRange
+factor-in-range-spec = tie.close (tie.spec (λ c κs. search needs) (λ c κs. search needs) (λ c κs. search needs) (λ c κs. search needs) (λ c κs. search needs) (λ c κs. search needs) (λ c. cc))

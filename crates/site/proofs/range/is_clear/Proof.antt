@@ -39,12 +39,7 @@ pub is-clear-spec : {M : Type 1} → statement M
 is-clear-spec =
     tie.close
     (tie.spec
-    Inv-loop
-    μ-loop
-    (λ c. (refl, refl))
-    (λ c κs. search needs)
-    returns
-    (λ c. search needs) (λ c. search needs)
-    loop-again
-    (λ c κs. search needs)
-    returns-2)
+    Inv-loop μ-loop (λ c. (refl, refl))
+    (λ c κs. search needs) returns
+    (λ c. search needs) (λ c. search needs) loop-again
+    (λ c κs. search needs) returns-2)

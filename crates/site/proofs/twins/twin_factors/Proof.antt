@@ -4,14 +4,6 @@ use Rattle.model.specs.Accept.{twinFactors}
 use Rattle.site.proofs.twins.twin_factors.Statement.{statement}
 use Rattle.site.proofs.twins.twin_factors.Tie as tie
 
-returns : tie.Need-returns
-unfolding twinFactors
-returns c = cc
-
 pub twin-factors-spec : {M : Type 1} → statement M
-twin-factors-spec =
-    tie.close
-    (tie.spec
-    (λ c κs. search needs) (λ c κs. search needs) (λ c κs. search needs) (λ c κs. search needs)
-    (λ c κs. search needs) (λ c κs. search needs) (λ c κs. search needs) (λ c κs. search needs)
-    returns)
+unfolding twinFactors
+twin-factors-spec = tie.close (tie.spec (λ c κs. search needs) (λ c κs. search needs) (λ c κs. search needs) (λ c κs. search needs) (λ c κs. search needs) (λ c κs. search needs) (λ c κs. search needs) (λ c κs. search needs) (λ c. cc))

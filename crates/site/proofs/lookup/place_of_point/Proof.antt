@@ -1,0 +1,16 @@
+use Rattle.site.proofs.lookup.place_of_point.Statement.{statement}
+use Rattle.site.proofs.lookup.place_of_point.Tie as tie
+use Rattle.site.proofs.lookup.place_of_point.Reads as reads
+use Rattle.site.proofs.lookup.place_of_point.Lts as lts
+use Rattle.site.proofs.lookup.place_of.Reads as place-of-reads
+
+-- src/lookup.rt:100:5
+place-of-requires : tie.Need-place-of-requires
+place-of-requires c κs = ?
+
+-- src/lookup.rt:97:1
+returns : tie.Need-returns
+returns c = ?
+
+pub place-of-point-spec : {M : Type 1} → statement M
+place-of-point-spec = tie.close (tie.spec place-of-requires returns)
