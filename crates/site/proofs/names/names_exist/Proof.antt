@@ -1,4 +1,4 @@
--- By the kind.
+-- By the kind that is read, which each arm is told: its test is the definition's for that kind.
 use borrow.Author.Needs.{needs}
 use denote.Ref.{now}
 use mathlib.Core.Path.{sym, _∙_}

@@ -1,4 +1,4 @@
--- By the kind.
+-- By the kind that is read, which each arm is told: its test is the definition's for that kind.
 use borrow.Author.Needs.{needs}
 use Rattle.site.proofs.range.fields_in_range.Statement.{statement}
 use Rattle.site.proofs.range.fields_in_range.Tie as tie

@@ -1,4 +1,4 @@
--- The instance, and then by the kind.
+-- The instance and the fields: each test is the definition's.
 use borrow.Author.Needs.{needs}
 use Rattle.model.specs.Accept.{inRange}
 use Rattle.site.proofs.range.in_range.Statement.{statement}

@@ -1,4 +1,4 @@
--- By the kind: the instances are compared, or the factors.
+-- By the kind that is read, which each arm is told: the instances are compared, or the factors.
 use borrow.Author.Needs.{needs}
 use Rattle.site.proofs.twins.are_alike.Statement.{statement}
 use Rattle.site.proofs.twins.are_alike.Tie as tie

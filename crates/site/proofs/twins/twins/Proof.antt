@@ -1,4 +1,4 @@
--- The kinds, and then by the kind.
+-- Kinds that differ are no twins; of one kind, what makes twins of it decides.
 use borrow.Author.Needs.{needs}
 use borrow.Author.Tests.{eq-eqb, ne-eqb}
 use Rattle.model.specs.Accept.{twins}

@@ -1,4 +1,4 @@
--- By the kind.
+-- By the kind that is read, which each arm is told: its record is the definition's for that kind.
 use borrow.Author.Needs.{needs}
 use Rattle.model.specs.State.{freshCredential, freshRecord}
 use Rattle.state.proofs.fresh.write_fresh.Statement.{statement}

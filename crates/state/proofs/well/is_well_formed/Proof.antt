@@ -28,21 +28,18 @@ loop-holds c =
 
 returns : tie.Need-returns Inv-loop μ-loop
 returns c =
-    let t = c .before .before in
-    let l = t .before .before .before in
+    let l = c .before .before .before .before .before in
     let s = l .before .before .before .before .before in
-    let site = now (s .args .site) in
-    let p = pair-at site (now (s .args .state)) (l .loop .i) (s .pre .1 .1) (omega arith) (t .before .group .ensures .0) (t .group2 .ensures .0) in
-    searched-hit (all-search (recordWell (records site))) ([], []) (l .loop .inv) (omega arith) p (ap not (c .before .record-well .ensures)) (c .if1 .taken)
+    searched-hit (all-search (recordWell (records (now (s .args .site))))) ([], []) (l .loop .inv) (omega arith)
+    (pair-at (now (s .args .site)) (now (s .args .state)) (l .loop .i) (s .pre .1 .1) (omega arith) (c .before .before .before .group .ensures .0) (c .before .before .group2 .ensures .0))
+    (ap not (c .before .record-well .ensures)) (c .if1 .taken)
 
 loop-again : tie.Need-loop-again Inv-loop μ-loop
 loop-again c =
     let t = c .before .before in
-    let l = t .before .before .before in
-    let s = l .before .before .before .before .before in
-    let site = now (s .args .site) in
-    let p = pair-at site (now (s .args .state)) (l .loop .i) (s .pre .1 .1) (omega arith) (t .before .group .ensures .0) (t .group2 .ensures .0) in
-    searched-pass (all-search (recordWell (records site))) ([], []) (l .loop .inv) (omega arith) p (ap not (c .before .record-well .ensures)) (c .if1 .left)
+    let s = t .before .before .before .before .before .before .before .before in
+    let p = pair-at (now (s .args .site)) (now (s .args .state)) (t .before .before .before .loop .i) (s .pre .1 .1) (omega arith) (t .before .group .ensures .0) (t .group2 .ensures .0) in
+    searched-pass (all-search (recordWell (records (now (s .args .site))))) ([], []) (t .before .before .before .loop .inv) (omega arith) p (ap not (c .before .record-well .ensures)) (c .if1 .left)
 
 returns-2 : tie.Need-returns-2 Inv-loop μ-loop
 returns-2 c =

@@ -1,4 +1,4 @@
--- By the kind.
+-- By the kind that is read, which each arm is told: its test is the definition's for that kind.
 use borrow.Author.Needs.{needs}
 use Rattle.model.specs.State.{recordWell}
 use Rattle.state.proofs.well.record_well.Statement.{statement}
@@ -8,8 +8,7 @@ pub record-well-spec : {M : Type 1} → statement M
 unfolding recordWell
 record-well-spec =
     tie.close
-    (tie.spec
-    (λ c κs. search needs)
+    (tie.spec (λ c κs. search needs)
     (λ c. search needs) (λ c κs. search needs) (λ c. search needs) (λ c κs. search needs) (λ c. search needs) (λ c κs. search needs)
     (λ c. search needs) (λ c κs. search needs) (λ c. search needs) (λ c κs. search needs) (λ c. search needs) (λ c κs. search needs)
     (λ c. rw (← c .before .before .before .record-kind-of .ensures, c .before .enum-told .given .1) (c .zone-well .ensures))
