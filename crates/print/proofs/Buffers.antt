@@ -6,7 +6,7 @@ use mathlib.Core.List.{List}
 use mathlib.Core.Bool.{Bool, true, false}
 use lib.ListN.{length, length-replicate}
 use Rattle.model.specs.Words.{zeros}
-use Rattle.model.specs.Calls.{isWorked, freshReturned, freshState, runReturned, runJournal}
+use Rattle.model.specs.Calls.{isWorked, freshReturned, freshState, checkState, runReturned, runJournal}
 use Rattle.model.specs.Print.{fromFresh, printJournal}
 use Rattle.print.specs.Print.{textOf, runInto}
 
@@ -16,18 +16,18 @@ module _ (site journal s t a b : List ℕ) (l : length s ≡ length t) (m : leng
   same-fresh = rw l
 
   same-returned : runReturned site (freshState site s .state) journal a ≡ runReturned site (freshState site t .state) journal b
-  unfolding freshState runReturned
+  unfolding freshState checkState runReturned
   same-returned = go (isWorked (freshReturned site t)) refl
     where
       go : (w : Bool) → isWorked (freshReturned site t) ≡ w → runReturned site (freshState site s .state) journal a ≡ runReturned site (freshState site t .state) journal b
-      go true e = rw (same-fresh, e, m)
-      go false e = rw (same-fresh, e, same-fresh, e)
+      go true e = simp (same-fresh, e, m)
+      go false e = simp (same-fresh, e)
 
   same-state : (w : Bool) → isWorked (freshReturned site t) ≡ w → isWorked (runReturned site (freshState site t .state) journal b) ≡ true
       → freshState site s .state ≡ freshState site t .state
-  unfolding freshState runReturned
+  unfolding freshState checkState runReturned
   same-state true e h = rw (same-fresh, e)
-  same-state false e h = let z : false ≡ true = rw (e, e, e) at h in cc
+  same-state false e h = let z : false ≡ true = simp e at h in cc
 
   same-text : textOf (runInto site journal s a) ≡ textOf (runInto site journal t b)
   unfolding textOf runInto runJournal

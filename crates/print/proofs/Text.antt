@@ -11,7 +11,7 @@ use borrow.Author.Tests.{leb-true}
 use Rattle.model.specs.Calls.{number, isWorked, freshState, runJournal}
 use Rattle.model.specs.Print.{answersText, decimalLine}
 use Rattle.model.proofs.Laws.{and-left, and-right}
-use Rattle.panel.proofs.Laws.{run-lengths}
+use Rattle.calls.proofs.Laws.{run-lengths}
 use Rattle.print.specs.Print.{hasRoom, textOf, runInto, PrintResult, printResult, printInto}
 use Rattle.print.specs.declared.Printed.the-variants.{Written, NoRoom}
 use Rattle.model.specs.declared.Returned.{Returned}

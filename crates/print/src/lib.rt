@@ -3,6 +3,7 @@ pub mod numbers; // numbers.rt: the characters, and how long a line is
 mod lines; // lines.rt: answers in hexadecimal digits, numbers in decimal
 
 ghost use mathlib.Core.Path.{_≡_};
+ghost use Rattle.model.specs.Calls.{runResult};
 ghost use Rattle.print.specs.Print.{hasRoom, runInto, printResult, printInto};
 use model::Returned;
 use model::numbers::ENTRY_SIZE;
@@ -24,7 +25,7 @@ fn has_room(journal: &[u8], text: &[u8]) -> bool
 
 // Runs a journal from fresh, in the lent state and answers.
 fn run_into(site: &[u8], journal: &[u8], state: &mut [u8], answers: &mut [u8]) -> Returned
-    ensures { λ r. ⌜ (r ≡ runInto (now (site .entry)) (now (journal .entry)) (now (state .entry)) (now (answers .entry)) .returned) × (now (state .exit) ≡ runInto (now (site .entry)) (now (journal .entry)) (now (state .entry)) (now (answers .entry)) .state) × (now (answers .exit) ≡ runInto (now (site .entry)) (now (journal .entry)) (now (state .entry)) (now (answers .entry)) .answers) ⌝ }
+    ensures { λ r. ⌜ runResult r (now (state .exit)) (now (answers .exit)) ≡ runInto (now (site .entry)) (now (journal .entry)) (now (state .entry)) (now (answers .entry)) ⌝ }
 {
     view::fresh_state(site, state);
     view::run_journal(site, state, journal, answers)

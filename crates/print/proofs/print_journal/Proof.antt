@@ -1,9 +1,10 @@
 -- With room the run's text is written, and the laws of `Text.antt` join it to what is returned; without room nothing is done.
 use native.Mathlib.Omega.{arith}
-use mathlib.Core.Path.{sym, _∙_}
+use mathlib.Core.Path.{sym, ap, _∙_}
 use borrow.Author.Needs.{needs}
 use borrow.Author.Tests.{not-true, not-false}
 use denote.Ref.{now}
+use Rattle.model.specs.Calls.{RunResult}
 use Rattle.print.specs.Print.{printInto}
 use Rattle.print.proofs.Text.{number-short, number-fits, lines-fit, answers-printed, number-printed}
 use Rattle.print.proofs.print_journal.Statement.{statement}
@@ -19,7 +20,7 @@ write-answers-requires c κs =
     let run = c .before .before .before .before .before .before .before .before .run-into in
     let h = sym (c .before .before .before .before .before .before .before .before .before .before .before .before .has-room .ensures) ∙ not-false _ (c .before .before .before .before .before .before .before .before .before .before .before .if1 .left) in
     let w = sym (c .before .before .before .is-worked .ensures) ∙ c .before .before .if2 .taken in
-    omega (arith, lines-fit (now (a .site)) (now (a .journal)) (now (a .state)) (now (a .answers)) (now (a .text)) h (run .result) (run .ensures .0) w)
+    omega (arith, lines-fit (now (a .site)) (now (a .journal)) (now (a .state)) (now (a .answers)) (now (a .text)) h (run .result) (ap (λ (x : RunResult). x .returned) (run .ensures)) w)
 
 returns-2 : tie.Need-returns-2
 returns-2 c =
@@ -28,8 +29,8 @@ returns-2 c =
     let run = c .before .before .before .before .before .before .before .before .before .before .before .run-into in
     let h = sym (c .before .before .before .before .before .before .before .before .before .before .before .before .before .before .before .has-room .ensures) ∙ not-false _ (c .before .before .before .before .before .before .before .before .before .before .before .before .before .before .if1 .left) in
     let w = sym (c .before .before .before .before .before .before .is-worked .ensures) ∙ c .before .before .before .before .before .if2 .taken in
-    answers-printed (now (a .site)) (now (a .journal)) (now (a .state)) (now (a .answers)) (now (a .text)) h (run .result) (run .ensures .0) (write .result) _ _ _
-    (run .ensures .1) (run .ensures .2) w (write .ensures .0) (write .ensures .1)
+    answers-printed (now (a .site)) (now (a .journal)) (now (a .state)) (now (a .answers)) (now (a .text)) h (run .result) (ap (λ (x : RunResult). x .returned) (run .ensures)) (write .result) _ _ _
+    (ap (λ (x : RunResult). x .state) (run .ensures)) (ap (λ (x : RunResult). x .answers) (run .ensures)) w (write .ensures .0) (write .ensures .1)
 
 write-decimal-line-requires : tie.Need-write-decimal-line-requires
 write-decimal-line-requires c κs =
@@ -45,8 +46,8 @@ returns-3 c =
     let run = c .before .before .before .before .before .before .before .before .before .before .before .run-into in
     let h = sym (c .before .before .before .before .before .before .before .before .before .before .before .before .before .before .before .has-room .ensures) ∙ not-false _ (c .before .before .before .before .before .before .before .before .before .before .before .before .before .before .if1 .left) in
     let w = sym (c .before .before .before .before .before .before .is-worked .ensures) ∙ c .before .before .before .before .before .if2 .left in
-    number-printed (now (a .site)) (now (a .journal)) (now (a .state)) (now (a .answers)) (now (a .text)) h (run .result) (run .ensures .0) (write .result) _ _ _
-    (run .ensures .1) (run .ensures .2) (number .result) (number .ensures) w (write .ensures .0) (write .ensures .1)
+    number-printed (now (a .site)) (now (a .journal)) (now (a .state)) (now (a .answers)) (now (a .text)) h (run .result) (ap (λ (x : RunResult). x .returned) (run .ensures)) (write .result) _ _ _
+    (ap (λ (x : RunResult). x .state) (run .ensures)) (ap (λ (x : RunResult). x .answers) (run .ensures)) (number .result) (number .ensures) w (write .ensures .0) (write .ensures .1)
 
 pub print-journal-spec : {M : Type 1} → statement M
 print-journal-spec =
