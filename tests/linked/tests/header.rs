@@ -2,6 +2,7 @@
 
 mod library;
 
+use reference::layout;
 use reference::numbers::*;
 use std::collections::BTreeSet;
 use std::fs;
@@ -74,6 +75,8 @@ fn fields() -> Vec<(&'static str, u64)> {
         ("FACTOR_LOST", factor_disable::DISABLED_LOST),
         ("FACTOR_STOLEN", factor_disable::DISABLED_STOLEN),
         ("FACTOR_DAMAGED", factor_disable::DISABLED_DAMAGED),
+        ("FACTOR_DESTROYED", factor_disable::DISABLED_DESTROYED),
+        ("LARGEST_THREAT", MOST_THREAT_LEVEL),
         ("FORMAT_UNDEFINED", format::UNDEFINED),
         ("FORMAT_ERROR", format::ERROR),
         ("OPERATION_FACTOR", operation::READ_FACTOR),
@@ -94,6 +97,104 @@ fn fields() -> Vec<(&'static str, u64)> {
     ])
     .into_iter()
     .map(|(name, number)| (name, number.into()))
+    .collect()
+}
+
+fn site_offsets() -> Vec<(&'static str, usize)> {
+    use layout::{credential, factor, point, record, rule, zone};
+    Vec::from([
+        ("KIND", record::KIND),
+        ("FLAGS", record::FLAGS),
+        ("INSTANCE", record::INSTANCE),
+        ("ZONE_PASSBACK", zone::PASSBACK_MODE),
+        ("ZONE_UPPER_LIMIT", zone::OCCUPANCY_UPPER_LIMIT),
+        ("ZONE_LOWER_LIMIT", zone::OCCUPANCY_LOWER_LIMIT),
+        ("ZONE_PASSBACK_TIMEOUT", zone::PASSBACK_TIMEOUT),
+        ("POINT_MODE", point::AUTHORIZATION_MODE),
+        ("POINT_FACTORS_WANTED", point::FACTORS_WANTED),
+        ("POINT_ZONE_TO", point::ZONE_TO),
+        ("POINT_ZONE_FROM", point::ZONE_FROM),
+        ("POINT_THREAT_LEVEL", point::THREAT_LEVEL),
+        ("POINT_MOST_FAILURES", point::MAX_FAILED_ATTEMPTS),
+        ("POINT_FACTOR_TIMEOUT", point::FACTOR_TIMEOUT),
+        ("POINT_LOCKOUT_RELINQUISH", point::LOCKOUT_RELINQUISH_TIME),
+        ("POINT_FAILURE_WINDOW", point::FAILED_ATTEMPTS_TIME),
+        ("RULE_LOCATION_KIND", rule::LOCATION_KIND),
+        ("RULE_DAYS", rule::DAYS),
+        ("RULE_LOCATION", rule::LOCATION),
+        ("RULE_FROM", rule::FROM),
+        ("RULE_TO", rule::TO),
+        ("CREDENTIAL_DISABLE", credential::CREDENTIAL_DISABLE),
+        ("CREDENTIAL_THREAT_AUTHORITY", credential::THREAT_AUTHORITY),
+        ("CREDENTIAL_ACTIVATION", credential::ACTIVATION_TIME),
+        ("CREDENTIAL_EXPIRY", credential::EXPIRY_TIME),
+        ("CREDENTIAL_USES", credential::USES_REMAINING),
+        ("CREDENTIAL_DAYS", credential::DAYS_REMAINING),
+        ("CREDENTIAL_ABSENTEE_DAYS", credential::ABSENTEE_LIMIT),
+        ("CREDENTIAL_FIRST_RIGHTS", credential::FIRST_RIGHTS),
+        ("CREDENTIAL_SECOND_RIGHTS", credential::SECOND_RIGHTS),
+        ("FACTOR_ROLE", factor::ROLE),
+        ("FACTOR_DISABLE", factor::DISABLE),
+        ("FACTOR_FORMAT", factor::FORMAT),
+        ("FACTOR_VALUE", factor::VALUE),
+    ])
+}
+
+fn other_offsets() -> Vec<(&'static str, usize)> {
+    use layout::{answer, credential_state, entry, point_state, zone_state};
+    Vec::from([
+        ("ZONE_STATE_COUNT", zone_state::OCCUPANCY_COUNT),
+        ("POINT_STATE_TAG", point_state::ACCESS_EVENT_TAG),
+        ("POINT_STATE_FAILURES", point_state::FAILED_ATTEMPTS),
+        ("POINT_STATE_LOCKED", point_state::LOCKOUT),
+        ("POINT_STATE_LOCK_TIME", point_state::LOCK_TIME),
+        ("POINT_STATE_FIRST_FAILURE", point_state::FIRST_FAILURE),
+        ("POINT_STATE_WAITING_CREDENTIAL", point_state::WAITING_CREDENTIAL),
+        ("POINT_STATE_WAITING_SINCE", point_state::WAITING_SINCE),
+        ("CREDENTIAL_STATE_USES", credential_state::USES_REMAINING),
+        ("CREDENTIAL_STATE_DAYS", credential_state::DAYS_REMAINING),
+        ("CREDENTIAL_STATE_LAST_USE", credential_state::LAST_USE_TIME),
+        ("CREDENTIAL_STATE_ZONE", credential_state::ZONE),
+        ("CREDENTIAL_STATE_ENTERED", credential_state::ENTERED),
+        ("CREDENTIAL_STATE_LAST_EVENT", credential_state::LAST_ACCESS_EVENT),
+        ("CREDENTIAL_STATE_DISABLE", credential_state::CREDENTIAL_DISABLE),
+        ("CREDENTIAL_STATE_LAST_POINT", credential_state::LAST_ACCESS_POINT),
+        ("ENTRY_OPERATION", entry::OPERATION),
+        ("ENTRY_ARGUMENT", entry::ARGUMENT),
+        ("ENTRY_TIME", entry::TIME),
+        ("ENTRY_INSTANCE", entry::INSTANCE),
+        ("ENTRY_AMOUNT", entry::AMOUNT),
+        ("ENTRY_VALUE", entry::VALUE),
+        ("ANSWER_EVENT", answer::EVENT),
+        ("ANSWER_MARKS", answer::MARKS),
+        ("ANSWER_REFUSAL", answer::REFUSAL),
+        ("ANSWER_TAG", answer::TAG),
+        ("ANSWER_CREDENTIAL", answer::CREDENTIAL),
+        ("ANSWER_COUNT", answer::COUNT),
+    ])
+}
+
+/// A flag is the number of its bit; the reference has its worth.
+fn flags() -> Vec<(&'static str, u64)> {
+    Vec::from([
+        ("ZONE_FLAG_COUNTING", zone_flag::OCCUPANCY_COUNT_ENABLE),
+        ("POINT_FLAG_OUT_OF_SERVICE", point_flag::OUT_OF_SERVICE),
+        ("POINT_FLAG_UPPER_ENFORCED", point_flag::OCCUPANCY_UPPER_LIMIT_ENFORCED),
+        ("POINT_FLAG_LOWER_ENFORCED", point_flag::OCCUPANCY_LOWER_LIMIT_ENFORCED),
+        ("POINT_FLAG_COUNT_ADJUST", point_flag::OCCUPANCY_COUNT_ADJUST),
+        ("POINT_FLAG_MUSTER", point_flag::MUSTER_POINT),
+        ("RULE_FLAG_ENABLED", rule_flag::ENABLE),
+        ("RULE_FLAG_NEGATIVE", rule_flag::NEGATIVE),
+        ("RULE_FLAG_ALWAYS", rule_flag::ALWAYS),
+        ("RULE_FLAG_EVERYWHERE", rule_flag::EVERYWHERE),
+        ("CREDENTIAL_FLAG_MASTER", credential_flag::MASTER_EXEMPTION),
+        ("CREDENTIAL_FLAG_PASSBACK_EXEMPT", credential_flag::PASSBACK_EXEMPTION),
+        ("CREDENTIAL_FLAG_OCCUPANCY_EXEMPT", credential_flag::OCCUPANCY_EXEMPTION),
+        ("CREDENTIAL_FLAG_TRACE", credential_flag::TRACE_FLAG),
+        ("CREDENTIAL_FLAG_EXTENDED_TIME", credential_flag::EXTENDED_TIME_ENABLE),
+    ])
+    .into_iter()
+    .map(|(name, worth): (_, u8)| (name, worth.trailing_zeros().into()))
     .collect()
 }
 
@@ -121,7 +222,9 @@ fn events() -> Vec<(&'static str, u64)> {
 }
 
 fn numbers() -> Vec<(&'static str, u64)> {
-    [outcomes(), sizes_and_times(), fields(), events()].concat()
+    let offsets = [site_offsets(), other_offsets()].concat();
+    let offsets = offsets.into_iter().map(|(name, offset)| (name, offset as u64)).collect();
+    [outcomes(), sizes_and_times(), fields(), offsets, flags(), events()].concat()
 }
 
 fn header() -> String {
