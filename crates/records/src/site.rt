@@ -70,6 +70,20 @@ pub fn zone_of(part: &[u8]) -> Zone
     }
 }
 
+pub fn mode_of(part: &[u8]) -> u8
+    requires { ⌜ Part (now part) ⌝ }
+    ensures { λ r. ⌜ r ≡ pointOf (now (part .entry)) .mode ⌝ }
+{
+    byte_at(part, layout::POINT_MODE)
+}
+
+pub fn factors_wanted_of(part: &[u8]) -> u8
+    requires { ⌜ Part (now part) ⌝ }
+    ensures { λ r. ⌜ r ≡ pointOf (now (part .entry)) .«factors_wanted» ⌝ }
+{
+    byte_at(part, layout::POINT_FACTORS_WANTED)
+}
+
 pub fn zone_to_of(part: &[u8]) -> ZoneId
     requires { ⌜ Part (now part) ⌝ }
     ensures { λ r. ⌜ r ≡ pointOf (now (part .entry)) .«zone_to» ⌝ }
@@ -82,6 +96,13 @@ pub fn zone_from_of(part: &[u8]) -> ZoneId
     ensures { λ r. ⌜ r ≡ pointOf (now (part .entry)) .«zone_from» ⌝ }
 {
     ZoneId(reference_at(part, layout::POINT_ZONE_FROM))
+}
+
+pub fn threat_level_of(part: &[u8]) -> u8
+    requires { ⌜ Part (now part) ⌝ }
+    ensures { λ r. ⌜ r ≡ pointOf (now (part .entry)) .«threat_level» ⌝ }
+{
+    byte_at(part, layout::POINT_THREAT_LEVEL)
 }
 
 pub fn most_failures_of(part: &[u8]) -> u8
@@ -101,11 +122,11 @@ pub fn point_of(part: &[u8]) -> Point
         lower_enforced: flag_of(part, layout::POINT_FLAG_LOWER_ENFORCED),
         count_adjust: flag_of(part, layout::POINT_FLAG_COUNT_ADJUST),
         muster: flag_of(part, layout::POINT_FLAG_MUSTER),
-        mode: byte_at(part, layout::POINT_MODE),
-        factors_wanted: byte_at(part, layout::POINT_FACTORS_WANTED),
+        mode: mode_of(part),
+        factors_wanted: factors_wanted_of(part),
         zone_to: zone_to_of(part),
         zone_from: zone_from_of(part),
-        threat_level: byte_at(part, layout::POINT_THREAT_LEVEL),
+        threat_level: threat_level_of(part),
         most_failures: most_failures_of(part),
         factor_timeout: short_at(part, layout::POINT_FACTOR_TIMEOUT),
         lockout_relinquish: long_at(part, layout::POINT_LOCKOUT_RELINQUISH),

@@ -35,7 +35,10 @@ pub(crate) fn is_at(part: &[u8], kind: u8, instance: u32) -> bool
     requires { ⌜ length (now part) ≡ 32 ⌝ }
     ensures { λ r. ⌜ r ≡ isAt kind instance (now (part .entry)) ⌝ }
 {
-    (kind_of(part) == kind) & (instance_of(part) == instance)
+    if kind_of(part) != kind {
+        return false;
+    }
+    instance_of(part) == instance
 }
 
 // The place of the first record of a kind and an instance.

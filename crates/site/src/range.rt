@@ -75,18 +75,21 @@ fn zone_in_range(part: &[u8]) -> bool
         & is_clear(part, layout::ZONE_SPARE, layout::ZONE_SPARE_SIZE)
 }
 
+// Its fields are read one by one: the reader of the whole point is not inlined.
 fn point_in_range(part: &[u8]) -> bool
     requires { ⌜ length (now part) ≡ 32 ⌝ }
     ensures { λ r. ⌜ r ≡ pointInRange (now (part .entry)) ⌝ }
 {
-    let p = site::point_of(part);
+    let factors_wanted = site::factors_wanted_of(part);
+    let zone_to = site::zone_to_of(part);
+    let zone_from = site::zone_from_of(part);
     (site::flags_of(part) < layout::POINT_FLAGS_END)
-        & (p.mode <= MODE_DENY_ALL)
-        & ((1 <= p.factors_wanted) & (p.factors_wanted <= TWO_FACTORS))
-        & (p.zone_to.0 <= NONE)
-        & (p.zone_from.0 <= NONE)
-        & ((p.zone_to.0 == NONE) | (p.zone_to.0 != p.zone_from.0))
-        & (p.threat_level <= LARGEST_THREAT)
+        & (site::mode_of(part) <= MODE_DENY_ALL)
+        & ((1 <= factors_wanted) & (factors_wanted <= TWO_FACTORS))
+        & (zone_to.0 <= NONE)
+        & (zone_from.0 <= NONE)
+        & ((zone_to.0 == NONE) | (zone_to.0 != zone_from.0))
+        & (site::threat_level_of(part) <= LARGEST_THREAT)
         & is_clear(part, layout::POINT_SPARE, layout::POINT_SPARE_SIZE)
 }
 
@@ -168,5 +171,8 @@ pub(crate) fn in_range(part: &[u8]) -> bool
     requires { ⌜ length (now part) ≡ 32 ⌝ }
     ensures { λ r. ⌜ r ≡ inRange (now (part .entry)) ⌝ }
 {
-    (site::instance_of(part) < NONE) & fields_in_range(part)
+    if NONE <= site::instance_of(part) {
+        return false;
+    }
+    fields_in_range(part)
 }

@@ -7,11 +7,12 @@ pub are-alike-spec : {M : Type 1} → statement M
 are-alike-spec =
     tie.close
     (tie.spec
-    (λ c κs. search needs) (λ c κs. search needs) (λ c κs. search needs)
-    (λ c. search needs) (λ c. search needs) (λ c. search needs) (λ c. search needs) (λ c. search needs) (λ c κs. search needs) (λ c. search needs)
-    (λ c. rw (← c .before .before .record-kind-of .ensures, c .enum-told .given .1) (cc))
-    (λ c. rw (← c .before .before .record-kind-of .ensures, c .enum-told2 .given .1) (cc))
+    (λ c κs. search needs)
+    (λ c. search needs) (λ c κs. search needs) (λ c. search needs) (λ c κs. search needs) (λ c. search needs)
+    (λ c. search needs) (λ c κs. search needs) (λ c. search needs) (λ c κs. search needs) (λ c. search needs) (λ c κs. search needs)
+    (λ c. rw (← c .before .before .before .record-kind-of .ensures, c .before .enum-told .given .1) (c .same-instance .ensures))
+    (λ c. rw (← c .before .before .before .record-kind-of .ensures, c .before .enum-told2 .given .1) (c .same-instance2 .ensures))
     (λ c. rw (← c .before .before .record-kind-of .ensures, c .enum-told3 .given .1))
-    (λ c. rw (← c .before .before .record-kind-of .ensures, c .enum-told4 .given .1) (cc))
+    (λ c. rw (← c .before .before .before .record-kind-of .ensures, c .before .enum-told4 .given .1) (c .same-instance3 .ensures))
     (λ c. rw (← c .before .before .before .record-kind-of .ensures, c .before .enum-told5 .given .1) (c .twin-factors .ensures))
-    (λ c. rw (← c .before .before .record-kind-of .ensures, c .enum-told6 .given .1) (cc)))
+    (λ c. rw (← c .before .before .before .record-kind-of .ensures, c .before .enum-told6 .given .1) (c .same-instance4 .ensures)))

@@ -1,0 +1,12 @@
+-- A field of the point.
+use borrow.Author.Needs.{needs}
+use Rattle.model.specs.Site.{pointOf}
+use Rattle.records.proofs.site.mode_of.Statement.{statement}
+use Rattle.records.proofs.site.mode_of.Tie as tie
+
+returns : tie.Need-returns
+unfolding pointOf
+returns c = cc
+
+pub mode-of-spec : {M : Type 1} → statement M
+mode-of-spec = tie.close (tie.spec (λ c κs. search needs) returns)
