@@ -129,8 +129,9 @@ state-of site state w l = go (length site / 32) site state (omega arith)
     go : (k : ℕ) (site state : List ℕ) → length state ≡ k * 32 → stateOf (paired k site state) ≡ state
     go k site state h = ap flatten (states k site state) ∙ joined-back 32 k state h
 
--- A write is made among the records of the state.
-pub write-below : (on : Bool) (i n j : ℕ) (p : Place) → writePlace on i p n ≡ At j → j < n
+-- ── a write at the place that was found for it
+
+write-below : (on : Bool) (i n j : ℕ) (p : Place) → writePlace on i p n ≡ At j → j < n
 unfolding writePlace
 write-below on i n j p e = go (on && not (eqb i NONE)) p e
   where
@@ -142,3 +143,8 @@ write-below on i n j p e = go (on && not (eqb i NONE)) p e
     go true (At k) e = below k (ltb k n) refl e
     go true Nothing e = let z : n ≡ suc j = cc in omega (arith, z)
     go false p e = let z : n ≡ suc j = cc in omega (arith, z)
+
+-- The place that was found for a write is among the records of the state.
+pub place-below : (on : Bool) (i : ℕ) (p : Place) (state : List ℕ) (r : Place) → r ≡ writePlace on i p (length state / 32) →
+    (j : ℕ) → r ≡ At j → j < length state / 32
+place-below on i p state r found j e = write-below on i (length state / 32) j p (sym found ∙ e)

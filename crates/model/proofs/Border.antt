@@ -182,7 +182,7 @@ module _ (P : Part) where
       go true = matched (identified ss e) g
       go false = h
 
-  -- The outcome of a factor read, at any view whose references are on the point's side.
+  -- The outcome of a factor read, in any situation whose references are on the point's side.
   sided-outcome : (v : Situation) (e : Entry) (x : ℕ) →
       onSide P n.access-credential (v .number .0) (member P n.access-point (e .instance)) ≡ true →
       onSide P n.access-credential (v .«point_state» .«waiting_credential» .0) (member P n.access-point (e .instance)) ≡ true →

@@ -30,7 +30,7 @@ use Rattle.model.specs.declared.Outcome.{Outcome}
 use Rattle.model.specs.declared.Operation.{Operation}
 use Rattle.model.specs.declared.Operation.the-variants.{Factor, SetCount, AdjustCount, SetDisable, SetService, Unknown}
 
--- ── the states that a factor read leaves, for every view and event
+-- ── the states that a factor read leaves, for every situation and event
 
 -- The situation has sound states, and its references are NONE or exist.
 record Seen (ss : List (List ℕ)) (v : Situation) : Type 0 where
@@ -222,7 +222,7 @@ module _ (ss : List (List ℕ)) (ps : Panel) (of-site : sites ps ≡ ss) (well :
       }
 
   module _ (names : all (namesExist ss) ss ≡ true) where
-    -- The view of a factor read.
+    -- The situation of a factor read.
     situation-seen : Seen ss (situationOf ps e (find n.access-point (e .instance) ps))
     unfolding situationOf numberRead factorRead credentialAt
     situation-seen =

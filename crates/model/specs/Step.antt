@@ -1,4 +1,4 @@
--- One entry at the panel: its view, its outcome under its operation, the records written; then a list of entries.
+-- One entry at the panel: its situation, its outcome under its operation, the records written; then a list of entries.
 use Prim.Native.Nat.{ℕ, _+_, _-_}
 use mathlib.Core.List.{List, [], _∷_}
 use mathlib.Core.Bool.{Bool, true, false, not}

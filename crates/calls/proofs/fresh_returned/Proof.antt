@@ -28,9 +28,5 @@ returns-3 c =
 
 pub fresh-returned-spec : {M : Type 1} → statement M
 fresh-returned-spec =
-    tie.close
-    (tie.spec
-    (λ c κs. search needs) (λ c κs. search needs)
-    (λ c. search needs) returns
-    (λ c. search needs) returns-2
-    (λ c. search needs) returns-3)
+    tie.close (tie.spec (λ c κs. search needs) (λ c κs. search needs) (λ c. search needs) returns (λ c. search needs) returns-2 (λ c. search needs)
+    returns-3)

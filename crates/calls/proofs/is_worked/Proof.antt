@@ -4,9 +4,6 @@ use borrow.Author.Needs.{needs}
 use Rattle.calls.proofs.is_worked.Statement.{statement}
 use Rattle.calls.proofs.is_worked.Tie as tie
 
-returns : tie.Need-returns
-unfolding isWorked
-returns c = rw (c .number-of .ensures)
-
 pub is-worked-spec : {M : Type 1} → statement M
-is-worked-spec = tie.close (tie.spec (λ c κs. search needs) returns)
+unfolding isWorked
+is-worked-spec = tie.close (tie.spec (λ c κs. search needs) (λ c. rw (c .number-of .ensures)))

@@ -29,10 +29,5 @@ returns-2 c =
 
 pub make-fresh-spec : {M : Type 1} → statement M
 make-fresh-spec =
-    tie.close
-    (tie.spec
-    (λ c. search needs) (λ c κs. search needs) (λ c κs. search needs) (λ c. search needs)
-    returns
-    write-fresh-state-requires
-    (λ c. search needs)
-    returns-2)
+    tie.close (tie.spec (λ c. search needs) (λ c κs. search needs) (λ c κs. search needs) (λ c. search needs) returns write-fresh-state-requires
+    (λ c. search needs) returns-2)

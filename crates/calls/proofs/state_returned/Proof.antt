@@ -39,10 +39,5 @@ returns-3 c =
 
 pub state-returned-spec : {M : Type 1} → statement M
 state-returned-spec =
-    tie.close
-    (tie.spec
-    (λ c κs. search needs) (λ c κs. search needs)
-    (λ c. search needs) returns
-    is-well-formed-requires
-    (λ c. search needs) returns-2
-    (λ c. search needs) returns-3)
+    tie.close (tie.spec (λ c κs. search needs) (λ c κs. search needs) (λ c. search needs) returns is-well-formed-requires (λ c. search needs)
+    returns-2 (λ c. search needs) returns-3)

@@ -31,11 +31,5 @@ returns-2 c =
 
 pub work-through-spec : {M : Type 1} → statement M
 work-through-spec =
-    tie.close
-    (tie.spec
-    (λ c. search needs) (λ c κs. search needs) (λ c κs. search needs) (λ c. search needs) (λ c. search needs)
-    returns
-    (λ c. search needs)
-    run-requires
-    (λ c. search needs) (λ c. search needs)
-    returns-2)
+    tie.close (tie.spec (λ c. search needs) (λ c κs. search needs) (λ c κs. search needs) (λ c. search needs) (λ c. search needs) returns
+    (λ c. search needs) run-requires (λ c. search needs) (λ c. search needs) returns-2)

@@ -19,11 +19,5 @@ put-requires-2 c κs =
 
 pub insert-spec : {M : Type 1} → statement M
 insert-spec =
-    tie.close
-    (tie.spec
-    (λ c κs. search needs) (λ c κs. search needs) (λ c κs. search needs)
-    put-requires
-    (λ c. search needs) (λ c. search needs)
-    (λ c κs. search needs)
-    put-requires-2
-    (λ c. search needs) (λ c. search needs))
+    tie.close (tie.spec (λ c κs. search needs) (λ c κs. search needs) (λ c κs. search needs) put-requires (λ c. search needs) (λ c. search needs)
+    (λ c κs. search needs) put-requires-2 (λ c. search needs) (λ c. search needs))

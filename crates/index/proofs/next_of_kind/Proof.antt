@@ -46,15 +46,5 @@ returns-2 c =
 
 pub next-of-kind-spec : {M : Type 1} → statement M
 next-of-kind-spec =
-    tie.close
-    (tie.spec
-    Inv-loop
-    μ-loop
-    (λ c κs. tt)
-    loop-holds
-    (λ c κs. search needs)
-    (λ c κs m. c .record-at .ensures .1)
-    returns
-    (λ c. search needs) (λ c. search needs)
-    loop-again
-    returns-2)
+    tie.close (tie.spec Inv-loop μ-loop (λ c κs. tt) loop-holds (λ c κs. search needs) (λ c κs m. c .record-at .ensures .1) returns
+    (λ c. search needs) (λ c. search needs) loop-again returns-2)

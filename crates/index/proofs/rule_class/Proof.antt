@@ -5,11 +5,8 @@ use Rattle.index.specs.Index.{ruleClass}
 use Rattle.index.proofs.rule_class.Statement.{statement}
 use Rattle.index.proofs.rule_class.Tie as tie
 
-returns : tie.Need-returns
-unfolding ruleClass
-returns c = (rw (c .mixed .ensures), omega arith)
-
 pub rule-class-spec : {M : Type 1} → statement M
+unfolding ruleClass
 rule-class-spec =
-    tie.close
-    (tie.spec (λ c. search needs) (λ c. search needs) (λ c. search needs) (λ c κs. search needs) (λ c. search needs) returns)
+    tie.close (tie.spec (λ c. search needs) (λ c. search needs) (λ c. search needs) (λ c κs. search needs) (λ c. search needs)
+    (λ c. (rw (c .mixed .ensures), omega arith)))

@@ -5,9 +5,6 @@ use Rattle.index.specs.Index.{spread}
 use Rattle.index.proofs.spread.Statement.{statement}
 use Rattle.index.proofs.spread.Tie as tie
 
-returns : tie.Need-returns
-unfolding spread
-returns c = (rw (c .mixed .ensures), omega arith)
-
 pub spread-spec : {M : Type 1} → statement M
-spread-spec = tie.close (tie.spec (λ c κs. search needs) (λ c. search needs) (λ c. search needs) returns)
+unfolding spread
+spread-spec = tie.close (tie.spec (λ c κs. search needs) (λ c. search needs) (λ c. search needs) (λ c. (rw (c .mixed .ensures), omega arith)))

@@ -17,5 +17,4 @@ returns c =
     (e, ap length e ∙ length-group 32 (length s / 32) (a .i) s (c .before .pre) (omega arith))
 
 pub group-spec : {M : Type 1} → statement M
-group-spec =
-    tie.close (tie.spec (λ c. search needs) (λ c. search needs) (λ c. search needs) (λ c. search needs) (λ c. search needs) returns)
+group-spec = tie.close (tie.spec (λ c. search needs) (λ c. search needs) (λ c. search needs) (λ c. search needs) (λ c. search needs) returns)

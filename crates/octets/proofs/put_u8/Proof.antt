@@ -6,8 +6,6 @@ use borrow.Author.Needs.{needs}
 use Rattle.octets.proofs.put_u8.Statement.{statement}
 use Rattle.octets.proofs.put_u8.Tie as tie
 
-returns : tie.Need-returns
-returns c = let a = c .args in put-one (a .at) (a .value) (now (a .part)) (omega arith)
-
 pub put-u8-spec : {M : Type 1} → statement M
-put-u8-spec = tie.close (tie.spec (λ c. search needs) (λ c. search needs) returns)
+put-u8-spec =
+    tie.close (tie.spec (λ c. search needs) (λ c. search needs) (λ c. let a = c .args in put-one (a .at) (a .value) (now (a .part)) (omega arith)))

@@ -5,9 +5,6 @@ use Rattle.print.specs.Print.{hasRoom}
 use Rattle.print.proofs.has_room.Statement.{statement}
 use Rattle.print.proofs.has_room.Tie as tie
 
-returns : tie.Need-returns
-unfolding hasRoom
-returns c = refl
-
 pub has-room-spec : {M : Type 1} → statement M
-has-room-spec = tie.close (tie.spec (λ c. search needs) returns)
+unfolding hasRoom
+has-room-spec = tie.close (tie.spec (λ c. search needs) (λ c. refl))

@@ -51,15 +51,6 @@ returns-3 c =
 
 pub print-journal-spec : {M : Type 1} → statement M
 print-journal-spec =
-    tie.close
-    (tie.spec
-    (λ c κs. search needs) (λ c. search needs)
-    returns
-    (λ c κs. search needs) (λ c κs. search needs)
-    write-answers-requires
-    (λ c. search needs) (λ c. search needs) (λ c. search needs)
-    returns-2
-    (λ c κs. search needs)
-    write-decimal-line-requires
-    (λ c. search needs) (λ c. search needs) (λ c. search needs)
-    returns-3)
+    tie.close (tie.spec (λ c κs. search needs) (λ c. search needs) returns (λ c κs. search needs) (λ c κs. search needs) write-answers-requires
+    (λ c. search needs) (λ c. search needs) (λ c. search needs) returns-2 (λ c κs. search needs) write-decimal-line-requires (λ c. search needs)
+    (λ c. search needs) (λ c. search needs) returns-3)

@@ -16,6 +16,4 @@ returns c =
     ∙ ap (λ (x : FreshResult). runJournal (now (a .site)) (x .state) (now (a .journal)) (now (a .answers))) (f .fresh-state .ensures)
 
 pub run-into-spec : {M : Type 1} → statement M
-run-into-spec =
-    tie.close
-    (tie.spec (λ c κs. search needs) (λ c κs. search needs) (λ c. search needs) (λ c. search needs) returns)
+run-into-spec = tie.close (tie.spec (λ c κs. search needs) (λ c κs. search needs) (λ c. search needs) (λ c. search needs) returns)

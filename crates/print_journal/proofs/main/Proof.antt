@@ -13,13 +13,7 @@ slice-aggregate-print-bytes-4 c = simp length-take (omega arith)
 
 pub main-spec : {M : Type 1} → statement M
 main-spec =
-    tie.close
-    (tie.spec
-    (λ c κs. search needs) (λ c. search needs) (λ c κs. search needs) (λ c. search needs) (λ c. search needs)
-    (λ c κs. search needs) (λ c. search needs) (λ c. search needs) (λ c κs. search needs) (λ c. search needs)
-    (λ c. search needs) (λ c. search needs) (λ c. search needs) (λ c. search needs) (λ c. search needs)
-    (λ c. search needs)
-    slice-aggregate-print-bytes-3
-    (λ c. search needs)
-    slice-aggregate-print-bytes-4
-    (λ c. search needs) (λ c κs. search needs) (λ c. search needs))
+    tie.close (tie.spec (λ c κs. search needs) (λ c. search needs) (λ c κs. search needs) (λ c. search needs) (λ c. search needs)
+    (λ c κs. search needs) (λ c. search needs) (λ c. search needs) (λ c κs. search needs) (λ c. search needs) (λ c. search needs) (λ c. search needs)
+    (λ c. search needs) (λ c. search needs) (λ c. search needs) (λ c. search needs) slice-aggregate-print-bytes-3 (λ c. search needs)
+    slice-aggregate-print-bytes-4 (λ c. search needs) (λ c κs. search needs) (λ c. search needs))

@@ -34,9 +34,4 @@ returns-3 c =
     )
 
 pub is-enabled-rule-spec : {M : Type 1} → statement M
-is-enabled-rule-spec =
-    tie.close
-    (tie.spec
-    (λ c κs. search needs) returns
-    (λ c κs. search needs) returns-2
-    (λ c κs. search needs) returns-3)
+is-enabled-rule-spec = tie.close (tie.spec (λ c κs. search needs) returns (λ c κs. search needs) returns-2 (λ c κs. search needs) returns-3)

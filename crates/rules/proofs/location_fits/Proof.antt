@@ -4,13 +4,6 @@ use Rattle.model.specs.Checks.{locationFits}
 use Rattle.rules.proofs.location_fits.Statement.{statement}
 use Rattle.rules.proofs.location_fits.Tie as tie
 
-returns : tie.Need-returns
-unfolding locationFits
-returns c = cc
-
 pub location-fits-spec : {M : Type 1} → statement M
-location-fits-spec =
-    tie.close
-    (tie.spec
-    (λ c κs. search needs) (λ c κs. search needs) (λ c κs. search needs)
-    returns)
+unfolding locationFits
+location-fits-spec = tie.close (tie.spec (λ c κs. search needs) (λ c κs. search needs) (λ c κs. search needs) (λ c. cc))

@@ -39,15 +39,5 @@ returns c =
 
 pub scanned-spec : {M : Type 1} → statement M
 scanned-spec =
-    tie.close
-    (tie.spec
-    Inv-loop
-    μ-loop
-    (λ c κs. tt) (λ c κs. tt)
-    loop-holds
-    (λ c κs. search needs)
-    (λ c κs. c .record-at .ensures .1)
-    (λ c. search needs)
-    (λ c. search needs)
-    loop-again
-    returns)
+    tie.close (tie.spec Inv-loop μ-loop (λ c κs. tt) (λ c κs. tt) loop-holds (λ c κs. search needs) (λ c κs. c .record-at .ensures .1)
+    (λ c. search needs) (λ c. search needs) loop-again returns)

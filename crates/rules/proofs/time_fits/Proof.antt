@@ -4,14 +4,8 @@ use Rattle.model.specs.Checks.{timeFits}
 use Rattle.rules.proofs.time_fits.Statement.{statement}
 use Rattle.rules.proofs.time_fits.Tie as tie
 
-returns : tie.Need-returns
-unfolding timeFits
-returns c = cc
-
 pub time-fits-spec : {M : Type 1} → statement M
+unfolding timeFits
 time-fits-spec =
-    tie.close
-    (tie.spec
-    (λ c κs. search needs) (λ c κs. search needs) (λ c κs. search needs) (λ c κs. search needs)
-    (λ c κs. search needs) (λ c κs. search needs) (λ c κs. search needs)
-    returns)
+    tie.close (tie.spec (λ c κs. search needs) (λ c κs. search needs) (λ c κs. search needs) (λ c κs. search needs) (λ c κs. search needs)
+    (λ c κs. search needs) (λ c κs. search needs) (λ c. cc))

@@ -54,18 +54,6 @@ returns-2 c =
 
 pub verdict-of-spec : {M : Type 1} → statement M
 verdict-of-spec =
-    tie.close
-    (tie.spec
-    Inv-loop
-    μ-loop
-    (λ c κs. search needs) (λ c κs. search needs) (λ c κs. search needs)
-    loop-holds
-    (λ c. search needs)
-    (λ c. search needs)
-    with-class-requires
-    (λ c κs. search needs)
-    (λ c. c .scanned .ensures)
-    (λ c. search needs)
-    (λ c. search needs)
-    loop-again
+    tie.close (tie.spec Inv-loop μ-loop (λ c κs. search needs) (λ c κs. search needs) (λ c κs. search needs) loop-holds (λ c. search needs)
+    (λ c. search needs) with-class-requires (λ c κs. search needs) (λ c. c .scanned .ensures) (λ c. search needs) (λ c. search needs) loop-again
     returns-2)

@@ -42,8 +42,4 @@ returns-3 c =
 
 pub with-record-spec : {M : Type 1} → statement M
 with-record-spec =
-    tie.close
-    (tie.spec
-    (λ c κs. search needs) returns
-    (λ c κs. search needs) returns-2
-    (λ c κs. search needs) (λ c κs. search needs) returns-3)
+    tie.close (tie.spec (λ c κs. search needs) returns (λ c κs. search needs) returns-2 (λ c κs. search needs) (λ c κs. search needs) returns-3)

@@ -15,7 +15,4 @@ returns-2 c =
 
 pub permit-spec : {M : Type 1} → statement M
 unfolding permission
-permit-spec =
-    tie.close
-    (tie.spec
-    (λ c κs. tt) (λ c. rw (c .before .passage-of .ensures, c .if1 .taken)) (λ c κs. tt) (λ c κs. tt) returns-2)
+permit-spec = tie.close (tie.spec (λ c κs. tt) (λ c. rw (c .before .passage-of .ensures, c .if1 .taken)) (λ c κs. tt) (λ c κs. tt) returns-2)

@@ -9,11 +9,5 @@ use Rattle.effects.proofs.operations.adjusted_by.Tie as tie
 pub adjusted-by-spec : {M : Type 1} → statement M
 unfolding adjusted isNegative
 adjusted-by-spec =
-    tie.close
-    (tie.spec
-    (λ c. search needs)
-    (λ c. rw (le-leb _ _ (c .before .if1 .taken)) (omega arith))
-    (λ c. search needs) (λ c. search needs)
-    (λ c. rw (le-leb _ _ (c .before .if1 .taken)))
-    (λ c. search needs)
-    (λ c. rw (lt-leb _ _ (c .if1 .left))))
+    tie.close (tie.spec (λ c. search needs) (λ c. rw (le-leb _ _ (c .before .if1 .taken)) (omega arith)) (λ c. search needs) (λ c. search needs)
+    (λ c. rw (le-leb _ _ (c .before .if1 .taken))) (λ c. search needs) (λ c. rw (lt-leb _ _ (c .if1 .left))))

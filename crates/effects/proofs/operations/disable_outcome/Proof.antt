@@ -6,6 +6,5 @@ use Rattle.effects.proofs.operations.disable_outcome.Tie as tie
 pub disable-outcome-spec : {M : Type 1} → statement M
 unfolding unchanged disableOutcome
 disable-outcome-spec =
-    tie.close
-    (tie.spec
-    (λ c κs. tt) (λ c κs. tt) (λ c κs. tt) (λ c. rw (c .unchanged .ensures, c .before .disable-after .ensures, c .before .before .no-answer .ensures)))
+    tie.close (tie.spec (λ c κs. tt) (λ c κs. tt) (λ c κs. tt)
+    (λ c. rw (c .unchanged .ensures, c .before .disable-after .ensures, c .before .before .no-answer .ensures)))

@@ -17,8 +17,4 @@ returns c =
     )
 
 pub service-outcome-spec : {M : Type 1} → statement M
-service-outcome-spec =
-    tie.close
-    (tie.spec
-    (λ c κs. tt) (λ c κs. tt) (λ c κs. tt) (λ c κs. tt) (λ c κs. tt) (λ c κs. tt)
-    returns)
+service-outcome-spec = tie.close (tie.spec (λ c κs. tt) (λ c κs. tt) (λ c κs. tt) (λ c κs. tt) (λ c κs. tt) (λ c κs. tt) returns)

@@ -18,7 +18,5 @@ returns c =
 
 pub outcome-with-spec : {M : Type 1} → statement M
 outcome-with-spec =
-    tie.close
-    (tie.spec
-    (λ c κs. c .before .before .pre) (λ c κs. tt) (λ c κs. tt) (λ c κs. c .before .before .before .before .before .pre)
+    tie.close (tie.spec (λ c κs. c .before .before .pre) (λ c κs. tt) (λ c κs. tt) (λ c κs. c .before .before .before .before .before .pre)
     (λ c κs. tt) (λ c κs. tt) returns)

@@ -6,10 +6,5 @@ use Rattle.effects.proofs.point.failures_after.Tie as tie
 
 pub failures-after-spec : {M : Type 1} → statement M
 failures-after-spec =
-    tie.close
-    (tie.spec
-    (λ c. search needs)
-    (λ c. rw (c .before .before .if1 .left, c .before .if2 .taken, le-leb _ _ (c .if3 .taken)))
-    (λ c. search needs)
-    (λ c. rw (c .before .before .if1 .left, c .before .if2 .taken, lt-leb _ _ (c .if3 .left)))
-    (λ c. search needs))
+    tie.close (tie.spec (λ c. search needs) (λ c. rw (c .before .before .if1 .left, c .before .if2 .taken, le-leb _ _ (c .if3 .taken)))
+    (λ c. search needs) (λ c. rw (c .before .before .if1 .left, c .before .if2 .taken, lt-leb _ _ (c .if3 .left))) (λ c. search needs))

@@ -6,10 +6,7 @@ use borrow.Author.Needs.{needs}
 use Rattle.entries.proofs.Cursor.read.Statement.{statement}
 use Rattle.entries.proofs.Cursor.read.Tie as tie
 
-returns : tie.Need-returns
-returns c = let at = c .before .before .before .args .self .at in let w : at + 24 - at ≡ 24 = omega arith in rw w at (c .entry-of .ensures)
-
 pub read-spec : {M : Type 1} → statement M
 read-spec =
-    tie.close
-    (tie.spec (λ c. search needs) (λ c. search needs) (λ c. search needs) (λ c. search needs) (λ c κs. search needs) returns)
+    tie.close (tie.spec (λ c. search needs) (λ c. search needs) (λ c. search needs) (λ c. search needs) (λ c κs. search needs)
+    (λ c. let at = c .before .before .before .args .self .at in let w : at + 24 - at ≡ 24 = omega arith in rw w at (c .entry-of .ensures)))

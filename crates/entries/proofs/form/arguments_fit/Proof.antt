@@ -29,8 +29,6 @@ returns-5 c =
 
 pub arguments-fit-spec : {M : Type 1} → statement M
 arguments-fit-spec =
-    tie.close
-    (tie.spec
-    (λ c. search needs) (λ c κs. tt) (λ c. search needs) (λ c κs. tt) (λ c. search needs) (λ c κs. tt)
-    (λ c. search needs) (λ c κs. tt) (λ c κs. tt) (λ c. search needs) (λ c κs. tt) (λ c κs. tt)
-    (λ c. search needs) returns returns-2 returns-3 returns-4 returns-5 (λ c. search needs))
+    tie.close (tie.spec (λ c. search needs) (λ c κs. tt) (λ c. search needs) (λ c κs. tt) (λ c. search needs) (λ c κs. tt) (λ c. search needs)
+    (λ c κs. tt) (λ c κs. tt) (λ c. search needs) (λ c κs. tt) (λ c κs. tt) (λ c. search needs) returns returns-2 returns-3 returns-4 returns-5
+    (λ c. search needs))

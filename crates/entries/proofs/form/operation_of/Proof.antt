@@ -20,7 +20,5 @@ returns-6 c =
 pub operation-of-spec : {M : Type 1} → statement M
 unfolding operationOf
 operation-of-spec =
-    tie.close
-    (tie.spec
-    (λ c. rw (c .match .keys1)) (λ c. rw (c .match .keys2)) (λ c. rw (c .match .keys3)) (λ c. rw (c .match .keys4))
+    tie.close (tie.spec (λ c. rw (c .match .keys1)) (λ c. rw (c .match .keys2)) (λ c. rw (c .match .keys3)) (λ c. rw (c .match .keys4))
     (λ c. rw (c .match .keys5)) returns-6)

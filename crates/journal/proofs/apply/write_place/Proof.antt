@@ -1,3 +1,4 @@
+-- By the tests of the place, which are the definition's.
 use mathlib.Core.Path.{_≡_}
 use mathlib.Core.Bool.{not, _&&_}
 use lib.Dec.{eqb}

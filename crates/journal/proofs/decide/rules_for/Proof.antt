@@ -20,10 +20,4 @@ returns-2 c =
     ap (λ r. eventOf (a .v) r (a .e)) (c .verdict-of .ensures)
 
 pub rules-for-spec : {M : Type 1} → statement M
-rules-for-spec =
-    tie.close
-    (tie.spec
-    (λ c κs. search needs) (λ c κs. search needs)
-    returns
-    (λ c κs. search needs)
-    returns-2)
+rules-for-spec = tie.close (tie.spec (λ c κs. search needs) (λ c κs. search needs) returns (λ c κs. search needs) returns-2)

@@ -27,11 +27,4 @@ returns-3 c =
     (ap credentialId (c .instance-of .ensures))
 
 pub credential-read-spec : {M : Type 1} → statement M
-credential-read-spec =
-    tie.close
-    (tie.spec
-    returns
-    (λ c κs. search needs)
-    returns-2
-    (λ c κs. search needs)
-    returns-3)
+credential-read-spec = tie.close (tie.spec returns (λ c κs. search needs) returns-2 (λ c κs. search needs) returns-3)

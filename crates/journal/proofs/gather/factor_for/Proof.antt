@@ -22,8 +22,4 @@ returns c =
     )
 
 pub factor-for-spec : {M : Type 1} → statement M
-factor-for-spec =
-    tie.close
-    (tie.spec
-    (λ c κs. search needs)
-    returns)
+factor-for-spec = tie.close (tie.spec (λ c κs. search needs) returns)

@@ -4,11 +4,5 @@ use Rattle.journal.proofs.Lookups.{found-flag}
 use Rattle.journal.proofs.gather.is_found.Statement.{statement}
 use Rattle.journal.proofs.gather.is_found.Tie as tie
 
-returns : tie.Need-returns
-returns c = found-flag (now (c .args .part))
-
 pub is-found-spec : {M : Type 1} → statement M
-is-found-spec =
-    tie.close
-    (tie.spec
-    returns)
+is-found-spec = tie.close (tie.spec (λ c. found-flag (now (c .args .part))))

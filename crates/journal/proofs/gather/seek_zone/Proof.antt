@@ -14,9 +14,4 @@ unfolding seekPlace
 returns-2 c = rw (ne-eqb _ _ (c .before .if1 .left)) (c .place-of-zone .ensures)
 
 pub seek-zone-spec : {M : Type 1} → statement M
-seek-zone-spec =
-    tie.close
-    (tie.spec
-    returns
-    (λ c κs. search needs)
-    returns-2)
+seek-zone-spec = tie.close (tie.spec returns (λ c κs. search needs) returns-2)

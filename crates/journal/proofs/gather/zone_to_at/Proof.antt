@@ -4,13 +4,6 @@ use Rattle.journal.specs.Gather.{toAt}
 use Rattle.journal.proofs.gather.zone_to_at.Statement.{statement}
 use Rattle.journal.proofs.gather.zone_to_at.Tie as tie
 
-returns : tie.Need-returns
-unfolding toAt
-returns c = cc
-
 pub zone-to-at-spec : {M : Type 1} → statement M
-zone-to-at-spec =
-    tie.close
-    (tie.spec
-    (λ c κs. search needs) (λ c κs. search needs) (λ c κs. search needs)
-    returns)
+unfolding toAt
+zone-to-at-spec = tie.close (tie.spec (λ c κs. search needs) (λ c κs. search needs) (λ c κs. search needs) (λ c. cc))

@@ -12,9 +12,4 @@ returns-2 : tie.Need-returns-2
 returns-2 c = let a = c .before .before .before .before .args in let e : a .place ≡ Nothing = cc in (rw e, λ h. cc)
 
 pub part-at-spec : {M : Type 1} → statement M
-part-at-spec =
-    tie.close
-    (tie.spec
-    (λ c. search needs) (λ c κs. search needs) (λ c. search needs) (λ c. search needs)
-    returns
-    returns-2)
+part-at-spec = tie.close (tie.spec (λ c. search needs) (λ c κs. search needs) (λ c. search needs) (λ c. search needs) returns returns-2)

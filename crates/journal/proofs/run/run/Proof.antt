@@ -1,3 +1,4 @@
+-- By induction on the entries: after k of them state and answers are those of the first k.
 use Prim.Native.Nat.{_-_, _*_, _/_, _≤_, _<_}
 use native.Mathlib.Omega.{arith}
 use native.Mathlib.Numerals.{add-one}
@@ -70,17 +71,5 @@ returns c =
 
 pub run-spec : {M : Type 1} → statement M
 run-spec =
-    tie.close
-    (tie.spec
-    Inv-loop
-    μ-loop
-    (λ c κs. search needs)
-    loop-holds
-    (λ c κs. search needs)
-    step-requires
-    (λ c κs. search needs)
-    next-requires
-    (λ c. search needs) (λ c. search needs)
-    loop-again
-    (λ c. search needs) (λ c. search needs)
-    returns)
+    tie.close (tie.spec Inv-loop μ-loop (λ c κs. search needs) loop-holds (λ c κs. search needs) step-requires (λ c κs. search needs) next-requires
+    (λ c. search needs) (λ c. search needs) loop-again (λ c. search needs) (λ c. search needs) returns)

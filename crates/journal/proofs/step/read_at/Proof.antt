@@ -4,13 +4,6 @@ use Rattle.journal.specs.Decide.{readAt}
 use Rattle.journal.proofs.step.read_at.Statement.{statement}
 use Rattle.journal.proofs.step.read_at.Tie as tie
 
-returns : tie.Need-returns
-unfolding readAt
-returns c = cc
-
 pub read-at-spec : {M : Type 1} → statement M
-read-at-spec =
-    tie.close
-    (tie.spec
-    (λ c κs. search needs) (λ c κs. search needs)
-    returns)
+unfolding readAt
+read-at-spec = tie.close (tie.spec (λ c κs. search needs) (λ c κs. search needs) (λ c. cc))

@@ -4,14 +4,8 @@ use Rattle.journal.specs.Gather.{countTo}
 use Rattle.journal.proofs.step.service_at.Statement.{statement}
 use Rattle.journal.proofs.step.service_at.Tie as tie
 
-returns : tie.Need-returns
-unfolding countTo
-returns c = cc
-
 pub service-at-spec : {M : Type 1} → statement M
+unfolding countTo
 service-at-spec =
-    tie.close
-    (tie.spec
-    (λ c κs. search needs) (λ c κs. search needs) (λ c κs. search needs) (λ c κs. search needs)
-    (λ c κs. search needs) (λ c κs. search needs)
-    returns)
+    tie.close (tie.spec (λ c κs. search needs) (λ c κs. search needs) (λ c κs. search needs) (λ c κs. search needs) (λ c κs. search needs)
+    (λ c κs. search needs) (λ c. cc))

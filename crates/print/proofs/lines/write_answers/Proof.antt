@@ -51,12 +51,5 @@ returns c =
 
 pub write-answers-spec : {M : Type 1} → statement M
 write-answers-spec =
-    tie.close
-    (tie.spec
-    Inv-loop
-    μ-loop
-    loop-holds
-    (λ c κs. search needs) (λ c. search needs) (λ c. search needs)
-    loop-again
-    (λ c. search needs) (λ c. search needs)
-    returns)
+    tie.close (tie.spec Inv-loop μ-loop loop-holds (λ c κs. search needs) (λ c. search needs) (λ c. search needs) loop-again (λ c. search needs)
+    (λ c. search needs) returns)

@@ -37,13 +37,5 @@ returns-2 c =
 
 pub write-decimal-line-spec : {M : Type 1} → statement M
 write-decimal-line-spec =
-    tie.close
-    (tie.spec
-    (λ c κs. search needs) (λ c. search needs)
-    slice-write-text-2
-    (λ c. search needs)
-    returns
-    (λ c κs. search needs) (λ c. search needs) (λ c κs. search needs)
-    slice-write-text-4
-    (λ c. search needs) (λ c. search needs)
-    returns-2)
+    tie.close (tie.spec (λ c κs. search needs) (λ c. search needs) slice-write-text-2 (λ c. search needs) returns (λ c κs. search needs)
+    (λ c. search needs) (λ c κs. search needs) slice-write-text-4 (λ c. search needs) (λ c. search needs) returns-2)

@@ -8,8 +8,6 @@ use Rattle.records.proofs.fields.reference_at.Tie as tie
 
 pub reference-at-spec : {M : Type 1} → statement M
 reference-at-spec =
-    tie.close
-    (tie.spec
-    (λ c. let s = c .before .before in short-reference (s .args .at) (now (s .args .part)) (s .pre .0) (c .if1 .taken))
+    tie.close (tie.spec (λ c. let s = c .before .before in short-reference (s .args .at) (now (s .args .part)) (s .pre .0) (c .if1 .taken))
     (λ c κs. search needs)
     (λ c. let s = c .before .before .before in c .get-u32 .ensures ∙ reference-found (s .args .at) (now (s .args .part)) (c .before .if1 .left)))

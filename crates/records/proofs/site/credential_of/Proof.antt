@@ -4,15 +4,9 @@ use Rattle.model.specs.Site.{credentialOf}
 use Rattle.records.proofs.site.credential_of.Statement.{statement}
 use Rattle.records.proofs.site.credential_of.Tie as tie
 
-returns : tie.Need-returns
-unfolding credentialOf
-returns c = cc
-
 pub credential-of-spec : {M : Type 1} → statement M
+unfolding credentialOf
 credential-of-spec =
-    tie.close
-    (tie.spec
-    (λ c κs. search needs) (λ c κs. search needs) (λ c κs. search needs) (λ c κs. search needs)
-    (λ c κs. search needs) (λ c κs. search needs) (λ c κs. search needs) (λ c κs. search needs)
-    (λ c κs. search needs) (λ c κs. search needs) (λ c κs. search needs)
-    returns)
+    tie.close (tie.spec (λ c κs. search needs) (λ c κs. search needs) (λ c κs. search needs) (λ c κs. search needs) (λ c κs. search needs)
+    (λ c κs. search needs) (λ c κs. search needs) (λ c κs. search needs) (λ c κs. search needs) (λ c κs. search needs) (λ c κs. search needs)
+    (λ c. cc))

@@ -4,9 +4,6 @@ use Rattle.model.specs.Site.{pointOf}
 use Rattle.records.proofs.site.factors_wanted_of.Statement.{statement}
 use Rattle.records.proofs.site.factors_wanted_of.Tie as tie
 
-returns : tie.Need-returns
-unfolding pointOf
-returns c = cc
-
 pub factors-wanted-of-spec : {M : Type 1} → statement M
-factors-wanted-of-spec = tie.close (tie.spec (λ c κs. search needs) returns)
+unfolding pointOf
+factors-wanted-of-spec = tie.close (tie.spec (λ c κs. search needs) (λ c. cc))

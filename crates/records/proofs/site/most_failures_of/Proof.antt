@@ -4,9 +4,6 @@ use Rattle.model.specs.Site.{pointOf}
 use Rattle.records.proofs.site.most_failures_of.Statement.{statement}
 use Rattle.records.proofs.site.most_failures_of.Tie as tie
 
-returns : tie.Need-returns
-unfolding pointOf
-returns c = cc
-
 pub most-failures-of-spec : {M : Type 1} → statement M
-most-failures-of-spec = tie.close (tie.spec (λ c κs. search needs) returns)
+unfolding pointOf
+most-failures-of-spec = tie.close (tie.spec (λ c κs. search needs) (λ c. cc))

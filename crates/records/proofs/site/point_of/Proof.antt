@@ -4,16 +4,9 @@ use Rattle.model.specs.Site.{pointOf}
 use Rattle.records.proofs.site.point_of.Statement.{statement}
 use Rattle.records.proofs.site.point_of.Tie as tie
 
-returns : tie.Need-returns
-unfolding pointOf
-returns c = cc
-
 pub point-of-spec : {M : Type 1} → statement M
+unfolding pointOf
 point-of-spec =
-    tie.close
-    (tie.spec
-    (λ c κs. search needs) (λ c κs. search needs) (λ c κs. search needs) (λ c κs. search needs)
-    (λ c κs. search needs) (λ c κs. search needs) (λ c κs. search needs) (λ c κs. search needs)
-    (λ c κs. search needs) (λ c κs. search needs) (λ c κs. search needs) (λ c κs. search needs)
-    (λ c κs. search needs) (λ c κs. search needs)
-    returns)
+    tie.close (tie.spec (λ c κs. search needs) (λ c κs. search needs) (λ c κs. search needs) (λ c κs. search needs) (λ c κs. search needs)
+    (λ c κs. search needs) (λ c κs. search needs) (λ c κs. search needs) (λ c κs. search needs) (λ c κs. search needs) (λ c κs. search needs)
+    (λ c κs. search needs) (λ c κs. search needs) (λ c κs. search needs) (λ c. cc))

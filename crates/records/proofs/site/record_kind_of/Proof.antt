@@ -18,9 +18,6 @@ none-of-them c =
 
 pub record-kind-of-spec : {M : Type 1} → statement M
 record-kind-of-spec =
-    tie.close
-    (tie.spec
-    (λ c κs. search needs)
-    (λ c. rw (← c .before .kind-of .ensures, c .match .keys1)) (λ c. rw (← c .before .kind-of .ensures, c .match .keys2))
-    (λ c. rw (← c .before .kind-of .ensures, c .match .keys3)) (λ c. rw (← c .before .kind-of .ensures, c .match .keys4))
-    (λ c. rw (← c .before .kind-of .ensures, c .match .keys5)) none-of-them)
+    tie.close (tie.spec (λ c κs. search needs) (λ c. rw (← c .before .kind-of .ensures, c .match .keys1))
+    (λ c. rw (← c .before .kind-of .ensures, c .match .keys2)) (λ c. rw (← c .before .kind-of .ensures, c .match .keys3))
+    (λ c. rw (← c .before .kind-of .ensures, c .match .keys4)) (λ c. rw (← c .before .kind-of .ensures, c .match .keys5)) none-of-them)

@@ -4,14 +4,7 @@ use Rattle.model.specs.Site.{zoneOf}
 use Rattle.records.proofs.site.zone_of.Statement.{statement}
 use Rattle.records.proofs.site.zone_of.Tie as tie
 
-returns : tie.Need-returns
-unfolding zoneOf
-returns c = cc
-
 pub zone-of-spec : {M : Type 1} → statement M
+unfolding zoneOf
 zone-of-spec =
-    tie.close
-    (tie.spec
-    (λ c κs. search needs) (λ c κs. search needs) (λ c κs. search needs) (λ c κs. search needs)
-    (λ c κs. search needs)
-    returns)
+    tie.close (tie.spec (λ c κs. search needs) (λ c κs. search needs) (λ c κs. search needs) (λ c κs. search needs) (λ c κs. search needs) (λ c. cc))

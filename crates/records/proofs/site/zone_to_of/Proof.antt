@@ -4,9 +4,6 @@ use Rattle.model.specs.Site.{pointOf}
 use Rattle.records.proofs.site.zone_to_of.Statement.{statement}
 use Rattle.records.proofs.site.zone_to_of.Tie as tie
 
-returns : tie.Need-returns
-unfolding pointOf
-returns c = cc
-
 pub zone-to-of-spec : {M : Type 1} → statement M
-zone-to-of-spec = tie.close (tie.spec (λ c κs. search needs) returns)
+unfolding pointOf
+zone-to-of-spec = tie.close (tie.spec (λ c κs. search needs) (λ c. cc))

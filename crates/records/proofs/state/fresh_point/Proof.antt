@@ -4,9 +4,6 @@ use mathlib.Core.Path.{refl}
 use Rattle.records.proofs.state.fresh_point.Statement.{statement}
 use Rattle.records.proofs.state.fresh_point.Tie as tie
 
-returns : tie.Need-returns
-unfolding freshPoint
-returns c = refl
-
 pub fresh-point-spec : {M : Type 1} → statement M
-fresh-point-spec = tie.close (tie.spec returns)
+unfolding freshPoint
+fresh-point-spec = tie.close (tie.spec (λ c. refl))

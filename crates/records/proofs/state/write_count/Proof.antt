@@ -13,8 +13,4 @@ returns c =
     rw (p .put-u32 .ensures, q .write-zeros .ensures)
 
 pub write-count-spec : {M : Type 1} → statement M
-write-count-spec =
-    tie.close
-    (tie.spec
-    (λ c κs. search needs) (λ c κs. search needs)
-    (λ c. search needs) returns)
+write-count-spec = tie.close (tie.spec (λ c κs. search needs) (λ c κs. search needs) (λ c. search needs) returns)

@@ -95,11 +95,6 @@ returns-4 c =
 
 pub index-records-spec : {M : Type 1} → statement M
 index-records-spec =
-    tie.close
-    (tie.spec
-    Inv-loop μ-loop (λ c κs. search needs) (λ c κs. search needs) loop-holds
-    (λ c. search needs) (λ c κs. search needs) (λ c κs. c .record-at .ensures .1) (λ c. search needs) returns
-    insert-requires has-twin-after-requires (λ c. search needs) loop-again
-    (λ c. search needs) returns-2
-    all-names-exist-requires (λ c. search needs) returns-3
-    (λ c. search needs) returns-4)
+    tie.close (tie.spec Inv-loop μ-loop (λ c κs. search needs) (λ c κs. search needs) loop-holds (λ c. search needs) (λ c κs. search needs)
+    (λ c κs. c .record-at .ensures .1) (λ c. search needs) returns insert-requires has-twin-after-requires (λ c. search needs) loop-again
+    (λ c. search needs) returns-2 all-names-exist-requires (λ c. search needs) returns-3 (λ c. search needs) returns-4)

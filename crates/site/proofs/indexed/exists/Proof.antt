@@ -18,6 +18,4 @@ returns-2 c =
     sym (place-exists-not (a .kind) (a .instance) (now (a .site)) (cc))
 
 pub exists-spec : {M : Type 1} → statement M
-exists-spec =
-    tie.close
-    (tie.spec (λ c κs. c .before .before .pre) (λ c. search needs) (λ c. search needs) returns returns-2)
+exists-spec = tie.close (tie.spec (λ c κs. c .before .before .pre) (λ c. search needs) (λ c. search needs) returns returns-2)

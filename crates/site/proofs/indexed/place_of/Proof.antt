@@ -39,12 +39,9 @@ loop-again c =
 
 pub place-of-spec : {M : Type 1} → statement M
 place-of-spec =
-    tie.close
-    (tie.spec
-    Inv-loop μ-loop (λ c κs. tt) (λ c κs. tt)
-    (λ c κs. (c .before .before .before .before .pre .0 .size, c .object-bucket .ensures .1)) loop-holds
-    (λ c κs. search needs) (λ c κs. c .record-at .ensures .1)
+    tie.close (tie.spec Inv-loop μ-loop (λ c κs. tt) (λ c κs. tt)
+    (λ c κs. (c .before .before .before .before .pre .0 .size, c .object-bucket .ensures .1)) loop-holds (λ c κs. search needs)
+    (λ c κs. c .record-at .ensures .1)
     (λ c. chain-hit (place-search _) (c .before .before .before .before .loop .inv) (omega arith) (c .before .before .record-at .ensures .0) (c .before .is-at .ensures) (c .if1 .taken))
     (λ c κs. let l = c .before .before .before .before in chain-within (l .before .before .before .before .before .before .pre .0) (l .loop .inv) (omega arith))
-    (λ c. search needs) loop-less loop-again
-    (λ c. chain-end (place-search _) (c .before .loop .inv) (omega arith)))
+    (λ c. search needs) loop-less loop-again (λ c. chain-end (place-search _) (c .before .loop .inv) (omega arith)))

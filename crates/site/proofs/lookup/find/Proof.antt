@@ -22,11 +22,4 @@ returns-2 c =
     sym (place-missing (a .kind) (a .instance) (now (a .site)) (cc))
 
 pub find-spec : {M : Type 1} → statement M
-find-spec =
-    tie.close
-    (tie.spec
-    (λ c κs. tt) (λ c. search needs)
-    record-at-requires
-    (λ c. search needs) (λ c. search needs)
-    returns
-    returns-2)
+find-spec = tie.close (tie.spec (λ c κs. tt) (λ c. search needs) record-at-requires (λ c. search needs) (λ c. search needs) returns returns-2)

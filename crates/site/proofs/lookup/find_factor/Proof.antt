@@ -30,10 +30,6 @@ loop-again c =
 
 pub find-factor-spec : {M : Type 1} → statement M
 find-factor-spec =
-    tie.close
-    (tie.spec
-    Inv-loop μ-loop (λ c κs. tt) (λ c. record { count = c .record-count .ensures; left = refl })
-    (λ c κs. search needs) (λ c κs. c .record-at .ensures .1) returns
-    (λ c. search needs) (λ c. search needs) loop-again
-    (λ c. search needs)
+    tie.close (tie.spec Inv-loop μ-loop (λ c κs. tt) (λ c. record { count = c .record-count .ensures; left = refl }) (λ c κs. search needs)
+    (λ c κs. c .record-at .ensures .1) returns (λ c. search needs) (λ c. search needs) loop-again (λ c. search needs)
     (λ c. let l = c .before .before in searched-end (find-search (fits (l .before .before .before .args .p))) [] (l .loop .inv) (omega arith)))

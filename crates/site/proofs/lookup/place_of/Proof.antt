@@ -32,9 +32,5 @@ loop-again c =
 
 pub place-of-spec : {M : Type 1} → statement M
 place-of-spec =
-    tie.close
-    (tie.spec
-    Inv-loop μ-loop (λ c κs. tt) loop-holds
-    (λ c κs. search needs) (λ c κs. c .record-at .ensures .1) returns
-    (λ c. search needs) (λ c. search needs) loop-again
-    (λ c. searched-end (place-search _) [] (c .before .loop .inv) (omega arith)))
+    tie.close (tie.spec Inv-loop μ-loop (λ c κs. tt) loop-holds (λ c κs. search needs) (λ c κs. c .record-at .ensures .1) returns (λ c. search needs)
+    (λ c. search needs) loop-again (λ c. searched-end (place-search _) [] (c .before .loop .inv) (omega arith)))

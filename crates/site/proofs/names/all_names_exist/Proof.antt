@@ -43,9 +43,6 @@ loop-again c =
 
 pub all-names-exist-spec : {M : Type 1} → statement M
 all-names-exist-spec =
-    tie.close
-    (tie.spec
-    Inv-loop μ-loop (λ c κs. tt) (λ c. record { count = c .record-count .ensures; left = refl })
-    (λ c κs. search needs) names-exist-requires returns
-    (λ c. search needs) (λ c. search needs) loop-again
+    tie.close (tie.spec Inv-loop μ-loop (λ c κs. tt) (λ c. record { count = c .record-count .ensures; left = refl }) (λ c κs. search needs)
+    names-exist-requires returns (λ c. search needs) (λ c. search needs) loop-again
     (λ c. searched-end (all-search (namesExist (records (now (c .before .before .before .before .before .args .site))))) [] (c .before .loop .inv) (omega arith)))

@@ -24,8 +24,5 @@ returns-3 c =
 
 pub location-exists-spec : {M : Type 1} → statement M
 location-exists-spec =
-    tie.close
-    (tie.spec
-    (λ c κs. search needs) (λ c. rw (← c .before .is-everywhere .ensures, c .if1 .taken))
-    (λ c κs. search needs) (λ c κs. search needs) (λ c κs. search needs) returns-2
-    (λ c κs. search needs) (λ c κs. search needs) returns-3)
+    tie.close (tie.spec (λ c κs. search needs) (λ c. rw (← c .before .is-everywhere .ensures, c .if1 .taken)) (λ c κs. search needs)
+    (λ c κs. search needs) (λ c κs. search needs) returns-2 (λ c κs. search needs) (λ c κs. search needs) returns-3)

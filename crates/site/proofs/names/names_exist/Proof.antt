@@ -16,11 +16,8 @@ location-exists-requires c κs =
 pub names-exist-spec : {M : Type 1} → statement M
 unfolding namesExist
 names-exist-spec =
-    tie.close
-    (tie.spec
-    (λ c κs. search needs)
-    (λ c. search needs) (λ c. search needs) (λ c κs. search needs) (λ c. search needs) location-exists-requires (λ c. search needs)
-    (λ c. search needs) (λ c κs. search needs) (λ c κs. search needs) (λ c. search needs)
+    tie.close (tie.spec (λ c κs. search needs) (λ c. search needs) (λ c. search needs) (λ c κs. search needs) (λ c. search needs)
+    location-exists-requires (λ c. search needs) (λ c. search needs) (λ c κs. search needs) (λ c κs. search needs) (λ c. search needs)
     (λ c. rw (← c .before .before .record-kind-of .ensures, c .enum-told .given .1))
     (λ c. rw (← c .before .before .before .record-kind-of .ensures, c .before .enum-told2 .given .1) (c .zones-exist .ensures))
     (λ c. rw (← c .before .before .before .record-kind-of .ensures, c .before .enum-told3 .given .1) (c .location-exists .ensures))

@@ -6,4 +6,6 @@ use Rattle.site.proofs.range.factor_in_range.Tie as tie
 
 pub factor-in-range-spec : {M : Type 1} → statement M
 unfolding factorInRange
-factor-in-range-spec = tie.close (tie.spec (λ c κs. search needs) (λ c κs. search needs) (λ c κs. search needs) (λ c κs. search needs) (λ c κs. search needs) (λ c κs. search needs) (λ c. cc))
+factor-in-range-spec =
+    tie.close (tie.spec (λ c κs. search needs) (λ c κs. search needs) (λ c κs. search needs) (λ c κs. search needs) (λ c κs. search needs)
+    (λ c κs. search needs) (λ c. cc))

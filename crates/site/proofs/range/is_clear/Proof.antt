@@ -37,9 +37,5 @@ returns-2 c = c .is-rest-clear .ensures ∙ c .before .before .loop .inv .1
 
 pub is-clear-spec : {M : Type 1} → statement M
 is-clear-spec =
-    tie.close
-    (tie.spec
-    Inv-loop μ-loop (λ c. (refl, refl))
-    (λ c κs. search needs) returns
-    (λ c. search needs) (λ c. search needs) loop-again
+    tie.close (tie.spec Inv-loop μ-loop (λ c. (refl, refl)) (λ c κs. search needs) returns (λ c. search needs) (λ c. search needs) loop-again
     (λ c κs. search needs) returns-2)

@@ -29,5 +29,4 @@ returns-4 c =
     rw e (sym (clear-none (a .at) (now (a .part))))
 
 pub is-word-clear-spec : {M : Type 1} → statement M
-is-word-clear-spec =
-    tie.close (tie.spec (λ c κs. search needs) (λ c κs. search needs) (λ c κs. search needs) returns returns-2 returns-3 returns-4)
+is-word-clear-spec = tie.close (tie.spec (λ c κs. search needs) (λ c κs. search needs) (λ c κs. search needs) returns returns-2 returns-3 returns-4)

@@ -6,4 +6,6 @@ use Rattle.site.proofs.range.point_in_range.Tie as tie
 
 pub point-in-range-spec : {M : Type 1} → statement M
 unfolding pointInRange
-point-in-range-spec = tie.close (tie.spec (λ c κs. search needs) (λ c κs. search needs) (λ c κs. search needs) (λ c κs. search needs) (λ c κs. search needs) (λ c κs. search needs) (λ c κs. search needs) (λ c. cc))
+point-in-range-spec =
+    tie.close (tie.spec (λ c κs. search needs) (λ c κs. search needs) (λ c κs. search needs) (λ c κs. search needs) (λ c κs. search needs)
+    (λ c κs. search needs) (λ c κs. search needs) (λ c. cc))

@@ -5,11 +5,9 @@ use Rattle.site.proofs.twins.are_alike.Tie as tie
 
 pub are-alike-spec : {M : Type 1} → statement M
 are-alike-spec =
-    tie.close
-    (tie.spec
+    tie.close (tie.spec (λ c κs. search needs) (λ c. search needs) (λ c κs. search needs) (λ c. search needs) (λ c κs. search needs)
+    (λ c. search needs) (λ c. search needs) (λ c κs. search needs) (λ c. search needs) (λ c κs. search needs) (λ c. search needs)
     (λ c κs. search needs)
-    (λ c. search needs) (λ c κs. search needs) (λ c. search needs) (λ c κs. search needs) (λ c. search needs)
-    (λ c. search needs) (λ c κs. search needs) (λ c. search needs) (λ c κs. search needs) (λ c. search needs) (λ c κs. search needs)
     (λ c. rw (← c .before .before .before .record-kind-of .ensures, c .before .enum-told .given .1) (c .same-instance .ensures))
     (λ c. rw (← c .before .before .before .record-kind-of .ensures, c .before .enum-told2 .given .1) (c .same-instance2 .ensures))
     (λ c. rw (← c .before .before .record-kind-of .ensures, c .enum-told3 .given .1))

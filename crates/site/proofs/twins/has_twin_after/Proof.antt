@@ -67,10 +67,7 @@ returns-3 c =
 
 pub has-twin-after-spec : {M : Type 1} → statement M
 has-twin-after-spec =
-    tie.close
-    (tie.spec
-    Inv-loop μ-loop
-    (λ c κs. tt) (λ c κs. c .before .before .before .pre .1) (λ c κs m. c .record-at .ensures .1) returns
+    tie.close (tie.spec Inv-loop μ-loop (λ c κs. tt) (λ c κs. c .before .before .before .pre .1) (λ c κs m. c .record-at .ensures .1) returns
     (λ c κs. let s = c .before .before .before .before .before .before in (s .pre .0 .size, omega (arith, s .pre .0 .few, s .pre .1))) loop-holds
     (λ c κs. search needs) (λ c κs. (c .before .before .before .before .before .before .record-at .ensures .1, c .record-at2 .ensures .1)) returns-2
     (λ c κs. let l = c .before .before .before .before in chain-within (l .before .before .before .before .before .before .before .before .pre .0) (l .loop .inv) (omega arith))

@@ -29,16 +29,9 @@ returns-4 c =
 pub write-fresh-spec : {M : Type 1} → statement M
 unfolding freshRecord
 write-fresh-spec =
-    tie.close
-    (tie.spec
-    (λ c κs. search needs)
-    (λ c. search needs) (λ c κs. search needs)
-    (λ c. search needs) (λ c κs. tt) (λ c κs. search needs)
-    (λ c. search needs) (λ c κs. search needs)
-    (λ c. search needs) (λ c κs. search needs) (λ c κs. search needs) (λ c κs. search needs) (λ c κs. tt) (λ c κs. search needs)
-    (λ c. search needs) (λ c κs. search needs)
-    (λ c. search needs) (λ c κs. search needs)
-    (λ c. search needs)
+    tie.close (tie.spec (λ c κs. search needs) (λ c. search needs) (λ c κs. search needs) (λ c. search needs) (λ c κs. tt) (λ c κs. search needs)
+    (λ c. search needs) (λ c κs. search needs) (λ c. search needs) (λ c κs. search needs) (λ c κs. search needs) (λ c κs. search needs) (λ c κs. tt)
+    (λ c κs. search needs) (λ c. search needs) (λ c κs. search needs) (λ c. search needs) (λ c κs. search needs) (λ c. search needs)
     (λ c. let k = c .before .before .before .before in rw (← k .before .before .record-kind-of .ensures, k .enum-told .given .1) (c .before .before .write-zeros .ensures))
     (λ c. search needs) returns-2 (λ c. search needs)
     (λ c. let k = c .before .before .before .before in rw (← k .before .before .record-kind-of .ensures, k .enum-told3 .given .1) (c .before .before .write-zeros2 .ensures))

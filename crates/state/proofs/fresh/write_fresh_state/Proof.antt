@@ -52,8 +52,5 @@ returns c =
 
 pub write-fresh-state-spec : {M : Type 1} → statement M
 write-fresh-state-spec =
-    tie.close
-    (tie.spec
-    Inv-loop μ-loop (λ c κs. tt) loop-holds
-    (λ c κs. search needs) (λ c κs. search needs) (λ c. search needs) (λ c. search needs) loop-again
-    (λ c. search needs) returns)
+    tie.close (tie.spec Inv-loop μ-loop (λ c κs. tt) loop-holds (λ c κs. search needs) (λ c κs. search needs) (λ c. search needs) (λ c. search needs)
+    loop-again (λ c. search needs) returns)

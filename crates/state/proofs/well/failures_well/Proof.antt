@@ -6,6 +6,4 @@ use Rattle.state.proofs.well.failures_well.Tie as tie
 
 pub failures-well-spec : {M : Type 1} → statement M
 unfolding failuresWell
-failures-well-spec =
-    tie.close
-    (tie.spec (λ c. rw (eq-eqb _ _ (c .if1 .taken))) (λ c. rw (ne-eqb _ _ (c .if1 .left))))
+failures-well-spec = tie.close (tie.spec (λ c. rw (eq-eqb _ _ (c .if1 .taken))) (λ c. rw (ne-eqb _ _ (c .if1 .left))))

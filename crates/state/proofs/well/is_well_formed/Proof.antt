@@ -48,10 +48,6 @@ returns-2 c =
 
 pub is-well-formed-spec : {M : Type 1} → statement M
 is-well-formed-spec =
-    tie.close
-    (tie.spec
-    Inv-loop μ-loop (λ c κs. tt) loop-holds
-    (λ c κs. search needs) (λ c κs. search needs)
-    (λ c κs. (c .before .before .before .before .before .before .before .before .pre .0, (c .before .group .ensures .1, c .group2 .ensures .1))) returns
-    (λ c. search needs) (λ c. search needs) loop-again
-    returns-2)
+    tie.close (tie.spec Inv-loop μ-loop (λ c κs. tt) loop-holds (λ c κs. search needs) (λ c κs. search needs)
+    (λ c κs. (c .before .before .before .before .before .before .before .before .pre .0, (c .before .group .ensures .1, c .group2 .ensures .1)))
+    returns (λ c. search needs) (λ c. search needs) loop-again returns-2)
