@@ -23,15 +23,22 @@ use records::site::kind_of;
 use records::site::record_kind_of;
 use records::site::role_of;
 
-// Two factors: identifying ones alike in format and value, confirming ones also in credential.
+// Two factors: identifying ones alike in format and value, confirming ones also in credential. Most differ in their values, and the rest is not read.
 fn twin_factors(s: &[u8], t: &[u8]) -> bool
     requires { ⌜ (length (now s) ≡ 32) × (length (now t) ≡ 32) ⌝ }
     ensures { λ r. ⌜ r ≡ Accept.twinFactors (now (s .entry)) (now (t .entry)) ⌝ }
 {
-    (role_of(s) == role_of(t))
-        & (format_of(s) == format_of(t))
-        & same_eight(s, FACTOR_VALUE, t, FACTOR_VALUE)
-        & ((role_of(s) == ROLE_IDENTIFYING) | (instance_of(s) == instance_of(t)))
+    let role = role_of(s);
+    if role != role_of(t) {
+        return false;
+    }
+    if format_of(s) != format_of(t) {
+        return false;
+    }
+    if !same_eight(s, FACTOR_VALUE, t, FACTOR_VALUE) {
+        return false;
+    }
+    (role == ROLE_IDENTIFYING) | (instance_of(s) == instance_of(t))
 }
 
 fn same_instance(s: &[u8], t: &[u8]) -> bool
