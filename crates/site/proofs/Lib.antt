@@ -1,4 +1,5 @@
 pub mod Records
+pub mod RecordKinds
 pub mod Searches
 pub mod Sought
 pub mod Places

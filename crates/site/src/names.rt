@@ -58,12 +58,10 @@ fn names_exist(site: &[u8], index: &[u16], part: &[u8]) -> bool
     ensures { λ r. ⌜ r ≡ Accept.namesExist (records (now (site .entry))) (now (part .entry)) ⌝ }
 {
     match record_kind_of(part) {
-        RecordKind::OfZone => true,
+        RecordKind::OfZone | RecordKind::OfCredential | RecordKind::OfUnknown => true,
         RecordKind::OfPoint => zones_exist(site, index, part),
         RecordKind::OfRule => location_exists(site, index, part),
-        RecordKind::OfCredential => true,
         RecordKind::OfFactor => credential_exists(site, index, CredentialId(instance_of(part))),
-        RecordKind::OfUnknown => true,
     }
 }
 

@@ -2,10 +2,9 @@
 ghost use mathlib.Core.Path.{_≡_};
 ghost use mathlib.Core.List.{[]};
 ghost use Prim.Native.Nat.{_+_, _<_};
-ghost use lib.Dec.{eqb};
 ghost use lib.ListN.{length, getD, drop};
 ghost use Rattle.model.specs.Words.{any};
-ghost use Rattle.model.specs.Site.{instance, recordKind, records};
+ghost use Rattle.model.specs.Site.{recordKind, records};
 ghost use Rattle.model.specs.Accept as Accept;
 ghost use Rattle.model.specs.Accept.{twinsAs};
 ghost use Rattle.index.specs.Index.{IndexedFrom};
@@ -41,25 +40,18 @@ fn twin_factors(s: &[u8], t: &[u8]) -> bool
     (role == ROLE_IDENTIFYING) | (instance_of(s) == instance_of(t))
 }
 
-fn same_instance(s: &[u8], t: &[u8]) -> bool
-    requires { ⌜ (length (now s) ≡ 32) × (length (now t) ≡ 32) ⌝ }
-    ensures { λ r. ⌜ r ≡ eqb (instance (now (s .entry))) (instance (now (t .entry))) ⌝ }
-{
-    instance_of(s) == instance_of(t)
-}
-
 // Two records of one kind: zones, points or credentials of one instance, or such factors. Rules are never twins.
 fn are_alike(s: &[u8], t: &[u8]) -> bool
     requires { ⌜ (length (now s) ≡ 32) × (length (now t) ≡ 32) ⌝ }
     ensures { λ r. ⌜ r ≡ twinsAs (recordKind (now (s .entry))) (now (s .entry)) (now (t .entry)) ⌝ }
 {
     match record_kind_of(s) {
-        RecordKind::OfZone => same_instance(s, t),
-        RecordKind::OfPoint => same_instance(s, t),
+        RecordKind::OfZone
+        | RecordKind::OfPoint
+        | RecordKind::OfCredential
+        | RecordKind::OfUnknown => instance_of(s) == instance_of(t),
         RecordKind::OfRule => false,
-        RecordKind::OfCredential => same_instance(s, t),
         RecordKind::OfFactor => twin_factors(s, t),
-        RecordKind::OfUnknown => same_instance(s, t),
     }
 }
 

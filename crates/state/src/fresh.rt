@@ -22,15 +22,13 @@ fn write_fresh(part: &mut [u8], s: &[u8])
     ensures { λ _. ⌜ now (part .exit) ≡ freshRecord (now (s .entry)) ⌝ }
 {
     match record_kind_of(s) {
-        RecordKind::OfZone => write_zeros(part),
         RecordKind::OfPoint => write_point(part, fresh_point()),
-        RecordKind::OfRule => write_zeros(part),
         RecordKind::OfCredential => write_credential(
             part,
             fresh_credential(uses_given(s), days_given(s), disable_given(s)),
         ),
-        RecordKind::OfFactor => write_zeros(part),
-        RecordKind::OfUnknown => write_zeros(part),
+        RecordKind::OfZone | RecordKind::OfRule | RecordKind::OfFactor | RecordKind::OfUnknown =>
+            write_zeros(part),
     }
 }
 

@@ -81,10 +81,10 @@ fn record_well(site: &[u8], index: &[u16], s: &[u8], t: &[u8]) -> bool
     match record_kind_of(s) {
         RecordKind::OfZone => zone_well(t),
         RecordKind::OfPoint => point_well(site, index, s, t),
-        RecordKind::OfRule => is_clear(t, 0, RECORD_SIZE),
         RecordKind::OfCredential => credential_well(site, index, t),
-        RecordKind::OfFactor => is_clear(t, 0, RECORD_SIZE),
-        RecordKind::OfUnknown => is_clear(t, 0, RECORD_SIZE),
+        RecordKind::OfRule | RecordKind::OfFactor | RecordKind::OfUnknown => {
+            is_clear(t, 0, RECORD_SIZE)
+        }
     }
 }
 
