@@ -1,5 +1,5 @@
 -- The tags of a chain: where one is missing, no rule of its class is left.
-use Prim.Native.Nat.{ℕ, zero, suc, _*_, _/_, _%_, _^_, _<_}
+use Prim.Native.Nat.{ℕ, zero, suc, _/_, _%_, _^_, _<_}
 use mathlib.Core.Path.{_≡_, refl, sym, _∙_}
 use mathlib.Core.List.{List, [], _∷_}
 use mathlib.Core.Bool.{Bool, true, false, false≢true}

@@ -26,7 +26,6 @@ use Rattle.site.specs.declared.Place.the-variants.{At, Nothing}
 use Rattle.journal.specs.declared.Places.{Places}
 use Rattle.model.specs.declared.Answer.{Answer}
 use Rattle.model.specs.declared.Entry.{Entry}
-use Rattle.model.specs.declared.Outcome.{Outcome}
 use Rattle.model.specs.declared.Operation.{Operation}
 use Rattle.model.specs.declared.Operation.the-variants.{Factor, SetCount, AdjustCount, SetDisable, SetService, Unknown}
 

@@ -3,14 +3,14 @@ use Prim.Native.Nat.{ℕ, zero, suc, _+_, _*_, _/_, _%_, _<_}
 use native.Mathlib.Omega.{arith}
 use mathlib.Core.Path.{_≡_, refl, sym, _∙_, ap}
 use mathlib.Core.List.{List, [], _∷_, map, map-map, flatten}
-use mathlib.Core.Bool.{Bool, true, false, _&&_}
+use mathlib.Core.Bool.{Bool, true, _&&_}
 use lib.Dec.{eqb}
 use lib.ListN.{length, take, drop, getD, length-append, length-map, length-drop}
 use lib.Seq.{take-at, drop-at, length-take-le}
 use borrow.Author.Tests.{eqb-true}
 use Rattle.octets.specs.Octets.{groups}
 use Rattle.octets.proofs.Groups.{length-groups, joined-back}
-use Rattle.model.specs.Words.{if_then_else_, all, zeros}
+use Rattle.model.specs.Words.{all}
 use Rattle.model.specs.Site.{recordKind, records}
 use Rattle.model.specs.State.{Pair, Panel, paired, panel, sites, stateOf, freshPoint, freshCredential, freshRecordAs, freshRecord, fresh}
 use Rattle.model.specs.Step.{apply, entryOutcome, after}

@@ -3,7 +3,7 @@ use Prim.Native.Nat.{ℕ, suc, _<_, _/_}
 use native.Mathlib.Omega.{arith}
 use mathlib.Core.Path.{_≡_, refl, sym, _∙_, ap}
 use mathlib.Core.List.{List, [], _∷_, map}
-use mathlib.Core.Bool.{Bool, true, false, not}
+use mathlib.Core.Bool.{false, not}
 use lib.Dec.{ltb, eqb}
 use lib.ListN.{length, take, getD, length-map, List·getD-map}
 use lib.Seq.{take-suc}

@@ -8,7 +8,7 @@ use mathlib.Core.Bool.{Bool, true, false, not, _&&_, _||_}
 use lib.Dec.{ltb, leb, eqb}
 use borrow.Author.Tests.{eqb-true, eqb-false, lt-ltb}
 use Rattle.octets.specs.Octets.{field, digits, same}
-use Rattle.model.specs.Words.{if_then_else_, all, zeros, missing, bitOf}
+use Rattle.model.specs.Words.{if_then_else_, all, missing, bitOf}
 use Rattle.model.specs.Numbers as n
 use Rattle.model.specs.Numbers.{NONE}
 use Rattle.model.specs.Site.{credentialId, kind, recordKind, disableGiven, instance, reference, pointOf, isAt, findIn}

@@ -5,7 +5,6 @@ use mathlib.Core.List.{List, [], _∷_}
 use mathlib.Core.Bool.{Bool, true, false, not, _&&_, _||_}
 use lib.Dec.{ltb, leb, eqb}
 use borrow.Author.Tests.{eqb-true, not-true, leb-false, lt-ltb}
-use Rattle.octets.specs.Octets.{field}
 use Rattle.model.specs.Words.{if_then_else_, all, missing}
 use Rattle.model.specs.Numbers as n
 use Rattle.model.specs.Numbers.{NONE}

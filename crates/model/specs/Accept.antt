@@ -6,7 +6,7 @@ use lib.Dec.{ltb, leb, eqb}
 use lib.ListN.{take, drop}
 use Rattle.octets.specs.Octets.{same}
 use Rattle.model.specs.Words.{if_then_else_, any, zeros, within, missing}
-use Rattle.model.specs.Numbers.{NONE, minutes-of-day, access-zone, access-point, access-rule, access-credential, authentication-factor, passback-soft, mode-deny-all, two-factors, role-identifying, role-confirming, factor-destroyed, format-error, largest-disable, largest-threat}
+use Rattle.model.specs.Numbers.{NONE, minutes-of-day, access-zone, access-point, access-credential, passback-soft, mode-deny-all, two-factors, role-identifying, role-confirming, factor-destroyed, format-error, largest-disable, largest-threat}
 use Rattle.model.specs.Site.{kind, recordKind, flags, instance, zoneOf, pointOf, credentialOf, disableGiven, everywhere, locationKind, weekdays, location, fromMinute, toMinute, role, factorDisable, format, value, isAt, findIn}
 use Rattle.model.specs.declared.RecordKind.{RecordKind}
 use Rattle.model.specs.declared.RecordKind.the-variants.{OfZone, OfPoint, OfRule, OfCredential, OfFactor, OfUnknown}

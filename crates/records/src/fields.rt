@@ -1,8 +1,6 @@
 // The numbers at the offsets of a part. In the empty part each is 0, and what is named is NONE.
 ghost use mathlib.Core.Path.{_≡_};
-ghost use mathlib.Core.Bool.{false};
 ghost use Prim.Native.Nat.{_+_, _≤_, _<_};
-ghost use lib.ListN.{length};
 ghost use Rattle.octets.specs.Octets.{field};
 ghost use Rattle.model.specs.Words.{bit, bitOf};
 ghost use Rattle.model.specs.Site.{flag, reference};

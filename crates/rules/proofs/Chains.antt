@@ -1,6 +1,6 @@
 -- The walk along a chain for the rules of a class: its start, a turn of it, its end; and the scan of all records.
 use Prim.Native.Nat.{ℕ, suc, _+_, _/_, _%_, _≤_, _<_}
-use mathlib.Core.Path.{_≡_, refl, sym, ap, _∙_}
+use mathlib.Core.Path.{_≡_}
 use mathlib.Core.List.{List, [], _∷_}
 use mathlib.Core.Bool.{Bool, true, false, or-assoc, or-false}
 use native.Mathlib.Omega.{arith}

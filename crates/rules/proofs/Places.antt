@@ -1,7 +1,7 @@
 -- A rule of the rights that fits in location is of one of the classes that are walked, so what the rules of those find is what all records find.
 use Prim.Native.Nat.{ℕ}
 use mathlib.Core.Path.{_≡_, refl, sym, _∙_}
-use mathlib.Core.List.{List, [], _∷_}
+use mathlib.Core.List.{List}
 use mathlib.Core.Bool.{Bool, true, false, not, _&&_, _||_, or-true, false≢true}
 use lib.Dec.{eqb}
 use lib.ListN.{take}

@@ -1,6 +1,6 @@
 -- The laws of verdicts: in any order and any number of times they find the same, and what a record finds all records find.
 use Prim.Native.Nat.{ℕ, zero, suc, _<_}
-use mathlib.Core.Path.{_≡_, refl, sym, ap, _∙_}
+use mathlib.Core.Path.{_≡_, refl}
 use mathlib.Core.List.{List, [], _∷_}
 use mathlib.Core.Bool.{Bool, true, false, _||_, or-assoc, or-comm, or-self, or-false, or-true}
 use native.Mathlib.Omega.{arith}

@@ -1,3 +1,4 @@
+pub mod Cases
 pub mod Records
 pub mod RecordKinds
 pub mod Searches

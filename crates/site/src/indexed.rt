@@ -95,7 +95,7 @@ pub fn credential_exists(site: &[u8], index: &[u16], credential: CredentialId) -
     exists(site, index, ACCESS_CREDENTIAL, credential.0)
 }
 
-// Whether a reference is NONE or names an object that exists. Most are NONE or found at once.
+// Whether a reference is NONE or names an object that exists: NONE is not looked up.
 fn none_or_exists(site: &[u8], index: &[u16], kind: u8, instance: u32) -> bool
     requires { ⌜ Indexed (now site) (now index) ⌝ }
     requires { ⌜ ByInstance kind ⌝ }

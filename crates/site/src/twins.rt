@@ -22,7 +22,7 @@ use records::site::kind_of;
 use records::site::record_kind_of;
 use records::site::role_of;
 
-// Two factors: identifying ones alike in format and value, confirming ones also in credential. Most differ in their values, and the rest is not read.
+// Two factors: identifying ones alike in format and value, confirming ones also in credential. Most that come here differ in their values, so that the credential is seldom read.
 fn twin_factors(s: &[u8], t: &[u8]) -> bool
     requires { ⌜ (length (now s) ≡ 32) × (length (now t) ≡ 32) ⌝ }
     ensures { λ r. ⌜ r ≡ Accept.twinFactors (now (s .entry)) (now (t .entry)) ⌝ }

@@ -1,6 +1,5 @@
 -- The rights number, with the location unless everywhere.
 use borrow.Author.Needs.{needs}
-use borrow.Author.Tests.{not-true, not-false}
 use Rattle.index.specs.Index.{classOfRule}
 use Rattle.index.proofs.class_of_rule.Statement.{statement}
 use Rattle.index.proofs.class_of_rule.Tie as tie

@@ -1,7 +1,5 @@
 -- By whether the record is a rule.
-use mathlib.Core.Path.{sym, _∙_, ap}
 use borrow.Author.Needs.{needs}
-use Rattle.model.specs.Site.{kind}
 use Rattle.index.proofs.insert.Statement.{statement}
 use Rattle.index.proofs.insert.Tie as tie
 

@@ -1,5 +1,4 @@
 -- By whether the class was empty.
-use borrow.Author.Needs.{needs}
 use borrow.Author.Tests.{eq-eqb, ne-eqb}
 use Rattle.index.proofs.last_after.Statement.{statement}
 use Rattle.index.proofs.last_after.Tie as tie

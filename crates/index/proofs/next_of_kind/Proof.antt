@@ -1,5 +1,5 @@
 -- Record by record: the next of the kind in what is left is the next from the start.
-use Prim.Native.Nat.{_≤_, _<_, _-_}
+use Prim.Native.Nat.{_<_, _-_}
 use mathlib.Core.Path.{_≡_, refl, sym, _∙_}
 use native.Mathlib.Omega.{arith}
 use borrow.Author.Needs.{needs}

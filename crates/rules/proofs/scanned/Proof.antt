@@ -1,5 +1,5 @@
 -- Record by record: what is found so far, with what the records left find, stays the same.
-use Prim.Native.Nat.{_≤_, _<_, _-_}
+use Prim.Native.Nat.{_<_, _-_}
 use mathlib.Core.Path.{_≡_, ap, _∙_, sym}
 use mathlib.Core.List.{[], _∷_}
 use native.Mathlib.Omega.{arith}

@@ -1,6 +1,6 @@
 -- A walk along the chain of the class's bucket, as long as a rule of the class may be left. Of a chain that is left nothing is said.
 use Prim.Native.Nat.{_≤_, _<_, _-_}
-use mathlib.Core.Path.{_≡_, refl, sym, ap, _∙_}
+use mathlib.Core.Path.{sym, ap, _∙_}
 use mathlib.Core.List.{[], _∷_}
 use mathlib.Core.Bool.{false≢true}
 use native.Mathlib.Omega.{arith}

@@ -4,7 +4,6 @@ use borrow.Author.Needs.{needs}
 use Rattle.checks.proofs.Moves.{event-moves}
 use Rattle.checks.proofs.Room.{event-room}
 use Rattle.checks.specs.Moves.{eventAfter}
-use Rattle.conditions.specs.Room.{Room}
 use Rattle.journal.specs.Decide.{readOutcome}
 use Rattle.model.specs.Checks.{eventOf}
 use Rattle.model.specs.Effects.{outcomeOf}

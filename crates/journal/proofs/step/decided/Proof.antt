@@ -1,9 +1,8 @@
 -- By the form of the entry, and by whether its object is there.
-use mathlib.Core.Path.{_≡_, sym, ap, _∙_}
+use mathlib.Core.Path.{_≡_}
 use borrow.Author.Needs.{needs}
 use borrow.Author.Tests.{not-true, not-false}
 use Rattle.journal.specs.Decide.{decidedAs, decidedOn}
-use Rattle.model.specs.Entry.{inForm}
 use Rattle.site.specs.declared.Place.the-variants.{At, Nothing}
 use Rattle.journal.proofs.step.decided.Statement.{statement}
 use Rattle.journal.proofs.step.decided.Tie as tie

@@ -1,12 +1,11 @@
 -- From the last record to the first: those from i on are in range and indexed, and whether the same is there twice is known.
 use Prim.Native.Nat.{_+_, _-_, _≤_, _<_}
-use mathlib.Core.Path.{_≡_, refl, sym, ap, _∙_}
-use mathlib.Core.List.{[]}
+use mathlib.Core.Path.{_≡_}
 use mathlib.Core.Bool.{true, false, false≢true}
 use native.Mathlib.Omega.{arith}
 use borrow.Author.Needs.{needs}
 use borrow.Author.Tests.{not-true, not-false}
-use lib.ListN.{length, drop, getD}
+use lib.ListN.{length, drop}
 use denote.Ref.{now}
 use Rattle.model.specs.Words.{all}
 use Rattle.model.specs.Site.{records}

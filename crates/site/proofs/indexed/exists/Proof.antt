@@ -1,6 +1,5 @@
 -- It has a place, or is missing.
-use mathlib.Core.Path.{_≡_, sym, _∙_}
-use mathlib.Core.Bool.{true, false}
+use mathlib.Core.Path.{sym}
 use borrow.Author.Needs.{needs}
 use denote.Ref.{now}
 use Rattle.site.proofs.Places.{place-exists, place-exists-not}

@@ -1,6 +1,6 @@
 -- A search for a factor, record by record.
 use Prim.Native.Nat.{_-_}
-use mathlib.Core.Path.{refl, _∙_}
+use mathlib.Core.Path.{refl}
 use mathlib.Core.List.{[]}
 use native.Mathlib.Omega.{arith}
 use borrow.Author.Needs.{needs}

@@ -1,5 +1,5 @@
 -- By the kind that is read, which each arm is told: its test is the definition's for that kind.
-use mathlib.Core.Path.{_≡_, refl, sym, _∙_}
+use mathlib.Core.Path.{refl, sym, _∙_}
 use mathlib.Core.List.{[], _∷_}
 use mathlib.Core.Bool.{true}
 use borrow.Author.Needs.{needs}

@@ -1,6 +1,6 @@
 -- A search for a state record that is not well formed, pair by pair.
 use Prim.Native.Nat.{_-_}
-use mathlib.Core.Path.{_≡_, refl, sym, ap, _∙_}
+use mathlib.Core.Path.{refl, sym, ap, _∙_}
 use mathlib.Core.List.{[]}
 use mathlib.Core.Bool.{not}
 use native.Mathlib.Omega.{arith}
