@@ -17,7 +17,7 @@ use Rattle.model.specs.State.{Pair, Panel, sites, findBy, find, seek, st
 use Rattle.model.specs.Entry.{entryOf, operationOf, objectKind, inForm, answerBytes}
 use Rattle.model.specs.Checks.{eventOf}
 use Rattle.model.specs.Effects.{counts, countAfter, answerWith, outcomeWith, outcomeOf}
-use Rattle.model.specs.Step.{noCount, unchanged, refuse, zoneTo, zoneFrom, situationOf, rulesAt, factorOutcome, countOutcome, isNegative, adjusted, adjustOutcome, disableOutcome, serviceOutcome, workedOutcome, outcomeAs, entryOutcome, apply, after, answers}
+use Rattle.model.specs.Step.{noCount, unchanged, refuse, zoneTo, zoneFrom, situationOf, rulesAt, factorOutcome, countOutcome, isNegative, adjusted, adjustOutcome, disableOutcome, serviceOutcome, workedOutcome, outcomeAs, entryOutcome, apply, panels, after, answers}
 use Rattle.model.specs.Tally.{Tally, move, setTo, signed, passed, talliedAs, tallied, tally, tallyOf, standing, countOf}
 use Rattle.model.specs.Demands.{Count}
 use Rattle.model.specs.declared.Entry.{Entry}
@@ -281,27 +281,27 @@ module _ (z : ℕ) (not-none : eqb z NONE ≡ false) (ps : Panel) (t : Tally) (h
 -- ── a list of entries
 
 -- An entry and the bytes of its answer.
-tallied-answer : (z : ℕ) (ss : List (List ℕ)) (b : List ℕ) (a : Answer) (t : Tally) →
-    tallied z ss (record { entry = b; answer = answerBytes a }) t
+tallied-answer : (z : ℕ) (ss : List (List ℕ)) (ps : Panel) (b : List ℕ) (a : Answer) (t : Tally) →
+    tallied z ss (record { found = ps; entry = b; answer = answerBytes a }) t
     ≡ talliedAs (operationOf (entryOf b .operation)) z ss (entryOf b) (a .event) (a .refusal) t
 unfolding tallied
-tallied-answer z ss b a t = rw (event-back a, refusal-back a)
+tallied-answer z ss ps b a t = rw (event-back a, refusal-back a)
 
 module _ (z : ℕ) (not-none : eqb z NONE ≡ false) where
   -- One entry: the count that it leaves is the standing of its tally.
   count-entry : (b : List ℕ) (ps : Panel) (t : Tally) → pos (zoneCount z ps) ≡ standing t → all inRange (sites ps) ≡ true → There z ps →
       pos (zoneCount z (apply (entryOutcome ps (entryOf b)) ps))
-      ≡ standing (tallied z (sites ps) (record { entry = b; answer = answerBytes (entryOutcome ps (entryOf b) .answer) }) t)
+      ≡ standing (tallied z (sites ps) (record { found = ps; entry = b; answer = answerBytes (entryOutcome ps (entryOf b) .answer) }) t)
   unfolding Fits
   count-entry b ps t h a g =
-      rw (count-apply z not-none (entryOutcome ps (entryOf b)) ps g, tallied-answer z (sites ps) b (entryOutcome ps (entryOf b) .answer) t)
+      rw (count-apply z not-none (entryOutcome ps (entryOf b)) ps g, tallied-answer z (sites ps) ps b (entryOutcome ps (entryOf b) .answer) t)
       (fits-entry z not-none ps t h (entryOf b) a)
 
   -- Any list of entries.
   count-entries : (bs : List (List ℕ)) (ps : Panel) (t : Tally) → pos (zoneCount z ps) ≡ standing t → all inRange (sites ps) ≡ true →
       There z ps →
       pos (zoneCount z (after ps (map entryOf bs))) ≡ standing (tally z (sites ps) (workedAt ps bs) t)
-  unfolding after answers tally workedAt
+  unfolding panels after answers tally workedAt
   count-entries [] ps t h a g = h
   count-entries (b ∷ bs) ps t h a g =
       let s = sites-apply (entryOutcome ps (entryOf b)) ps in

@@ -1,6 +1,6 @@
 -- An entry of the part reads the part's records alone: its outcome at the panel is its outcome at them.
 use Prim.Native.Nat.{ℕ}
-use mathlib.Core.Path.{_≡_, refl, _∙_}
+use mathlib.Core.Path.{_≡_, refl, sym, _∙_, ap}
 use mathlib.Core.List.{List, [], _∷_}
 use mathlib.Core.Bool.{Bool, true, false, not, _&&_, _||_, Bool·beq}
 use lib.Dec.{eqb}
@@ -9,11 +9,12 @@ use Rattle.octets.specs.Octets.{field}
 use Rattle.model.specs.Words.{if_then_else_, keep, any, all, missing}
 use Rattle.model.specs.Numbers as n
 use Rattle.model.specs.Numbers.{NONE}
-use Rattle.model.specs.Site.{kind, instance, reference, credentialOf, enabled, negative, isAt, findIn}
-use Rattle.model.specs.State.{Pair, Panel, sites, find, seek, pointStateOf}
+use Rattle.model.specs.Site.{kind, instance, reference, pointOf, credentialOf, enabled, negative, isAt, findIn}
+use Rattle.model.specs.State.{Pair, Panel, sites, find, seek, count, pointStateOf}
 use Rattle.model.specs.Entry.{operationOf, objectKind, inForm}
-use Rattle.model.specs.Checks.{identifying, confirming, factorFor, ofRights, enabledRule, locationFits, timeFits, verdict}
-use Rattle.model.specs.Step.{refuse, factorRead, numberRead, zoneTo, zoneFrom, credentialAt, situationOf, rulesAt, factorOutcome, workedOutcome, outcomeAs, entryOutcome}
+use Rattle.model.specs.Checks.{relinquished, stillLocked, waiting, identifying, confirming, factorFor, ofRights, enabledRule, locationFits, timeFits, verdict, eventOf}
+use Rattle.model.specs.Effects.{outcomeOf}
+use Rattle.model.specs.Step.{noAnswer, unchanged, refuse, factorRead, numberRead, zoneTo, zoneFrom, credentialAt, situationOf, rulesAt, factorOutcome, workedOutcome, outcomeAs, entryOutcome, apply}
 use Rattle.model.specs.Part.{Part, member, holds, belongs, onSide, credentialInside, inside, identified, identifiedInside, readInsideAs}
 use Rattle.model.specs.declared.ZoneId.{ZoneId}
 use Rattle.model.specs.declared.PointId.{PointId}
@@ -23,7 +24,7 @@ use Rattle.model.specs.declared.Entry.{Entry}
 use Rattle.model.specs.declared.Operation.{Operation}
 use Rattle.model.specs.declared.Operation.the-variants.{Factor, SetCount, AdjustCount, SetDisable, SetService, Unknown}
 use Rattle.model.proofs.Laws.{and-left, and-right, only, find-only, find-keep, any-keep, sites-only, all-found, found}
-use Rattle.model.proofs.Border.{beq-is, kind-at, side-is, none-side, holds-at, waitInside, pairInside, PointInside, point-inside, number-side, entryInsideAs, entryInside, worked-inside}
+use Rattle.model.proofs.Border.{beq-is, kind-at, side-is, none-side, holds-at, waitInside, pairInside, PointInside, point-inside, number-side, stopped, stoppedEvent, stopped-event, nobody, Alike, alike-same, stopped-alike, Read, halted, taken, read-as, answeredInsideAs, answeredInside, worked-inside}
 
 -- What is not there is no factor.
 factor-there : (s : List ℕ) → kind s ≡ n.authentication-factor → missing s ≡ false
@@ -69,7 +70,7 @@ module _ (P : Part) where
 
   -- The factor that a point looks for.
   factor-part : (c : CredentialId) (e : Entry) (ss : List (List ℕ)) → onSide P n.access-credential (c .0) true ≡ true →
-      missing (identified ss e) || Bool·beq (member P n.access-credential (instance (identified ss e))) true ≡ true →
+      (eqb (c .0) NONE ≡ true → missing (identified ss e) || Bool·beq (member P n.access-credential (instance (identified ss e))) true ≡ true) →
       factorFor c e (keep (holds P) ss) ≡ factorFor c e ss
   unfolding factorFor identified
   factor-part c e ss h g = go (eqb (c .0) NONE) refl
@@ -77,7 +78,7 @@ module _ (P : Part) where
       go : (d : Bool) → eqb (c .0) NONE ≡ d →
           (if d then identified (keep (holds P) ss) e else findIn (confirming c (e .argument) (e .value)) (keep (holds P) ss))
           ≡ (if d then identified ss e else findIn (confirming c (e .argument) (e .value)) ss)
-      go true none = find-keep (holds P) (identifying (e .argument) (e .value)) ss (λ a. identified-part e _ g a)
+      go true none = find-keep (holds P) (identifying (e .argument) (e .value)) ss (λ a. identified-part e _ (g none) a)
       go false none =
           find-keep (holds P) (confirming c (e .argument) (e .value)) ss
           (λ a. confirmed-part c e _ (side-is P n.access-credential (c .0) true h none) a)
@@ -153,13 +154,13 @@ module _ (P : Part) where
     unfolding zoneFrom
     zone-from-part = seek-part n.access-zone _ ps (rw m at (k .«zone_from»))
 
-    module _ (g : identifiedInside P (sites ps) e ≡ true) where
+    module _ (g : eqb (pointStateOf (x .1) .«waiting_credential» .0) NONE ≡ true → identifiedInside P (sites ps) e ≡ true) where
       -- The factor that is read.
       factor-read-part : factorRead (only (holds P) ps) e x ≡ factorRead ps e x
       unfolding factorRead identifiedInside
       factor-read-part =
           rw (sites-only (holds P) ps)
-          (factor-part (pointStateOf (x .1) .«waiting_credential») e (sites ps) (rw m at (k .waits)) (rw m at g))
+          (factor-part (pointStateOf (x .1) .«waiting_credential») e (sites ps) (rw m at (k .waits)) (λ none. rw m at (g none)))
 
       -- Its credential is the part's, or NONE.
       number-part : onSide P n.access-credential (numberRead ps e x .0) true ≡ true
@@ -198,48 +199,95 @@ module _ (P : Part) where
             rw (situation-part, sites-only (holds P) ps)
             (unfold situationOf in verdict-part _ _ _ _ _ (sites ps) (rights-read .first) (rights-read .second))
 
-        -- The outcome.
-        factor-outcome-part : factorOutcome (only (holds P) ps) e x ≡ factorOutcome ps e x
-        unfolding factorOutcome
-        factor-outcome-part = rw (zone-to-part, situation-part, rules-part)
+        -- The outcome at a point in service.
+        taken-part :
+            outcomeOf (situationOf (only (holds P) ps) e x) e (eventOf (situationOf (only (holds P) ps) e x) (rulesAt (only (holds P) ps) e x) e)
+            ≡ outcomeOf (situationOf ps e x) e (eventOf (situationOf ps e x) (rulesAt ps e x) e)
+        taken-part = rw (situation-part, rules-part)
+
+    -- The situation of nobody's card.
+    nobody-part : nobody (situationOf (only (holds P) ps) e x) ≡ nobody (situationOf ps e x)
+    unfolding nobody situationOf
+    nobody-part = rw (zone-to-part, zone-from-part)
+
+    -- A read that is stopped: the outcome is that of nobody's card.
+    halted-part : waiting (situationOf ps e x) ≡ false → stopped (situationOf ps e x) e ≡ true →
+        Alike
+        (outcomeOf (situationOf (only (holds P) ps) e x) e (eventOf (situationOf (only (holds P) ps) e x) (rulesAt (only (holds P) ps) e x) e))
+        (outcomeOf (situationOf ps e x) e (eventOf (situationOf ps e x) (rulesAt ps e x) e))
+    unfolding situationOf waiting relinquished stillLocked
+    halted-part w s =
+        let part = situationOf (only (holds P) ps) e x in
+        let whole = situationOf ps e x in
+        let locked = stillLocked whole e in
+        let a = stopped-alike part e locked w in
+        let b = stopped-alike whole e locked w in
+        rw (stopped-event part (rulesAt (only (holds P) ps) e x) e w s, stopped-event whole (rulesAt ps e x) e w s)
+        (record {
+          same-answer = a .same-answer ∙ ap (λ v. outcomeOf v e (stoppedEvent whole e) .answer) nobody-part ∙ sym (b .same-answer);
+          same-writes = λ qs. a .same-writes qs ∙ ap (λ v. apply (outcomeOf v e (stoppedEvent whole e)) qs) nobody-part ∙ sym (b .same-writes qs);
+        })
+
+    -- The outcome.
+    factor-outcome-part : all (pairInside P) ps ≡ true → readInsideAs Factor P ps e x ≡ true →
+        Alike (factorOutcome (only (holds P) ps) e x) (factorOutcome ps e x)
+    unfolding factorOutcome
+    factor-outcome-part a g = rw zone-to-part (go (pointOf (x .0) .«out_of_service») refl)
+      where
+        served : Read P ps e x →
+            Alike
+            (outcomeOf (situationOf (only (holds P) ps) e x) e (eventOf (situationOf (only (holds P) ps) e x) (rulesAt (only (holds P) ps) e x) e))
+            (outcomeOf (situationOf ps e x) e (eventOf (situationOf ps e x) (rulesAt ps e x) e))
+        served (halted w s) = halted-part w s
+        served (taken i) = alike-same (taken-part i a)
+
+        go : (c : Bool) → pointOf (x .0) .«out_of_service» ≡ c →
+            Alike
+            (if c then unchanged (noAnswer n.not-refused (pointStateOf (x .1) .tag) (count (zoneTo ps x .1)))
+            else outcomeOf (situationOf (only (holds P) ps) e x) e (eventOf (situationOf (only (holds P) ps) e x) (rulesAt (only (holds P) ps) e x) e))
+            (if c then unchanged (noAnswer n.not-refused (pointStateOf (x .1) .tag) (count (zoneTo ps x .1)))
+            else outcomeOf (situationOf ps e x) e (eventOf (situationOf ps e x) (rulesAt ps e x) e))
+        go true s = alike-same refl
+        go false s = served (read-as P ps e x s g)
 
   -- ── an entry of the part
 
   -- Every operation at its object x.
   worked-part : (o : Operation) (ps : Panel) (e : Entry) (x : Pair) → all (pairInside P) ps ≡ true →
-      isAt (objectKind o) (e .instance) (x .0) ≡ true → pairInside P x ≡ true → readInsideAs o P (sites ps) e ≡ true →
+      isAt (objectKind o) (e .instance) (x .0) ≡ true → pairInside P x ≡ true → readInsideAs o P ps e x ≡ true →
       member P (objectKind o) (e .instance) ≡ true →
-      workedOutcome o (only (holds P) ps) e x ≡ workedOutcome o ps e x
-  worked-part Factor ps e x a q h g m = factor-outcome-part ps e x m (point-inside P (e .instance) x q h) g a
-  worked-part SetCount ps e x a q h g m = refl
-  worked-part AdjustCount ps e x a q h g m = refl
-  worked-part SetDisable ps e x a q h g m = refl
-  worked-part SetService ps e x a q h g m = rw (zone-to-part ps e x m (point-inside P (e .instance) x q h))
-  worked-part Unknown ps e x a q h g m = refl
+      Alike (workedOutcome o (only (holds P) ps) e x) (workedOutcome o ps e x)
+  worked-part Factor ps e x a q h g m = factor-outcome-part ps e x m (point-inside P (e .instance) x q h) a g
+  worked-part SetCount ps e x a q h g m = alike-same refl
+  worked-part AdjustCount ps e x a q h g m = alike-same refl
+  worked-part SetDisable ps e x a q h g m = alike-same refl
+  worked-part SetService ps e x a q h g m = alike-same (rw (zone-to-part ps e x m (point-inside P (e .instance) x q h)))
+  worked-part Unknown ps e x a q h g m = alike-same refl
 
   -- An entry under an operation: refused or worked.
   as-part : (o : Operation) (ps : Panel) (e : Entry) → all (pairInside P) ps ≡ true →
-      entryInsideAs P o ps e (find (objectKind o) (e .instance) ps) ≡ true → member P (objectKind o) (e .instance) ≡ true →
-      outcomeAs o (only (holds P) ps) e (find (objectKind o) (e .instance) ps) ≡ outcomeAs o ps e (find (objectKind o) (e .instance) ps)
+      answeredInsideAs P o ps e (find (objectKind o) (e .instance) ps) ≡ true → member P (objectKind o) (e .instance) ≡ true →
+      Alike (outcomeAs o (only (holds P) ps) e (find (objectKind o) (e .instance) ps)) (outcomeAs o ps e (find (objectKind o) (e .instance) ps))
   unfolding outcomeAs find
   as-part o ps e a g m = go (inForm o e) (missing (find (objectKind o) (e .instance) ps .0)) refl refl
     where
       go : (c d : Bool) → inForm o e ≡ c → missing (find (objectKind o) (e .instance) ps .0) ≡ d →
+          Alike
           (if not c then refuse n.refused-form else
           if d then refuse n.refused-no-object else
           workedOutcome o (only (holds P) ps) e (find (objectKind o) (e .instance) ps))
-          ≡ (if not c then refuse n.refused-form else
+          (if not c then refuse n.refused-form else
           if d then refuse n.refused-no-object else
           workedOutcome o ps e (find (objectKind o) (e .instance) ps))
-      go false d f q = refl
-      go true true f q = refl
+      go false d f q = alike-same refl
+      go true true f q = alike-same refl
       go true false f q =
           worked-part o ps e _ a (found (isAt (objectKind o) (e .instance)) ps q)
           (all-found (pairInside P) (isAt (objectKind o) (e .instance)) ps a q) (worked-inside P o ps e _ g f q) m
 
-  -- The outcome of an entry of the part at the panel is its outcome at the part's records alone.
-  pub outcome-part : (ps : Panel) (e : Entry) → all (pairInside P) ps ≡ true → entryInside P ps e ≡ true → belongs P e ≡ true →
-      entryOutcome (only (holds P) ps) e ≡ entryOutcome ps e
-  unfolding entryOutcome belongs entryInside
+  -- An entry of the part has at the panel the outcome that it has at the part's records alone.
+  pub outcome-part : (ps : Panel) (e : Entry) → all (pairInside P) ps ≡ true → answeredInside P ps e ≡ true → belongs P e ≡ true →
+      Alike (entryOutcome (only (holds P) ps) e) (entryOutcome ps e)
+  unfolding entryOutcome belongs answeredInside
   outcome-part ps e a g m =
       rw (find-part (objectKind (operationOf (e .operation))) (e .instance) ps m) (as-part (operationOf (e .operation)) ps e a g m)

@@ -10,9 +10,9 @@ use Rattle.model.specs.Numbers.{access-zone, access-point, access-creden
 use Rattle.model.specs.Site.{records, kind, recordKind, isAt}
 use Rattle.model.specs.State.{Pair, Panel, panel, sites, pointStateOf, pointBytes, freshPoint, freshRecordAs, freshRecord}
 use Rattle.model.specs.Entry.{entryOf, answerBytes}
-use Rattle.model.specs.Step.{outcomeAs, entryOutcome, apply, after, answers}
+use Rattle.model.specs.Step.{outcomeAs, entryOutcome, apply, panels, after, answers}
 use Rattle.model.specs.Lists.{Worked, History, ended}
-use Rattle.model.specs.Part.{Part, member, holds, belongs, onSide, inside, readInside, SelfContained, partRecords, partWorked, partEntries, partAnswers, partState}
+use Rattle.model.specs.Part.{Part, member, holds, belongs, onSide, inside, entryInside, readInside, SelfContained, partRecords, partWorked, partEntries, partAnswers, partState}
 use Rattle.model.specs.Demands.{Isolation}
 use Rattle.model.specs.declared.Entry.{Entry}
 use Rattle.model.specs.declared.PointState.{PointState}
@@ -21,12 +21,12 @@ use Rattle.model.proofs.Laws.{and-left, and-right, only, all-write, sit
 use Rattle.model.proofs.RoundTrip.{point-back, refusal-back}
 use Rattle.model.proofs.Flat.{freshPanel, sites-fresh}
 use Rattle.model.proofs.Runs.{workedAt, allEntries, ended-panel, worked-list}
-use Rattle.model.proofs.Border.{kind-at, none-side, holds-at, part-apply, Sided, apply-out, waitInside, pairInside, entryInsideAs, entryInside, sided}
+use Rattle.model.proofs.Border.{kind-at, none-side, holds-at, part-apply, Sided, apply-out, waitInside, pairInside, Alike, answeredInsideAs, answeredInside, sided}
 use Rattle.model.proofs.Isolated.{outcome-part}
 
 -- An entry with its answer at a panel.
 abbrev answered : Panel → List ℕ → Worked
-answered ps b = record { entry = b; answer = answerBytes (entryOutcome ps (entryOf b) .answer) }
+answered ps b = record { found = ps; entry = b; answer = answerBytes (entryOutcome ps (entryOf b) .answer) }
 
 -- The entries of a list, as their fields.
 abbrev entriesOf : List Worked → List Entry
@@ -91,13 +91,13 @@ module _ (P : Part) where
     same-records : only (holds P) (after ps (map entryOf bs)) ≡ after (only (holds P) ps) (entriesOf ws)
 
   -- The premise on reads, of one entry.
-  entry-inside : (ps : Panel) (b : List ℕ) → readInside P (sites ps) (answered ps b) ≡ true → entryInside P ps (entryOf b) ≡ true
-  unfolding readInside entryInside entryInsideAs entryOutcome outcomeAs
+  entry-inside : (ps : Panel) (b : List ℕ) → readInside P (answered ps b) ≡ true → answeredInside P ps (entryOf b) ≡ true
+  unfolding readInside entryInside answeredInside answeredInsideAs entryOutcome outcomeAs
   entry-inside ps b g = rw (refusal-back (entryOutcome ps (entryOf b) .answer)) at g
 
   -- One entry before the list.
   alone-step : (b : List ℕ) (bs : List (List ℕ)) (ws : List Worked) (ps : Panel) → all (pairInside P) ps ≡ true →
-      entryInside P ps (entryOf b) ≡ true → Alone (apply (entryOutcome ps (entryOf b)) ps) bs ws →
+      answeredInside P ps (entryOf b) ≡ true → Alone (apply (entryOutcome ps (entryOf b)) ps) bs ws →
       Alone ps (b ∷ bs) (if belongs P (entryOf b) then answered ps b ∷ ws else ws)
   unfolding after answers
   alone-step b bs ws ps h g ih = go (belongs P (entryOf b)) refl
@@ -105,10 +105,10 @@ module _ (P : Part) where
       go : (c : Bool) → belongs P (entryOf b) ≡ c → Alone ps (b ∷ bs) (if c then answered ps b ∷ ws else ws)
       go true m =
           let q = outcome-part P ps (entryOf b) h g m in
-          let r = part-apply P (entryOutcome ps (entryOf b)) ps ∙ ap (λ (o : Outcome). apply o (only (holds P) ps)) (sym q) in
+          let r = part-apply P (entryOutcome ps (entryOf b)) ps ∙ sym (q .same-writes (only (holds P) ps)) in
           record {
             same-answers =
-                ap₂ _∷_ (ap (λ (o : Outcome). answerBytes (o .answer)) (sym q))
+                ap₂ _∷_ (ap answerBytes (sym (q .same-answer)))
                 (ih .same-answers ∙ ap (λ p. map answerBytes (answers p (entriesOf ws))) r);
             same-records = ih .same-records ∙ ap (λ p. after p (entriesOf ws)) r;
           }
@@ -120,16 +120,16 @@ module _ (P : Part) where
           }
 
   -- Every list of entries, at a panel whose records are all inside.
-  alone : (bs : List (List ℕ)) (ps : Panel) → all (pairInside P) ps ≡ true → all (readInside P (sites ps)) (workedAt ps bs) ≡ true →
+  alone : (bs : List (List ℕ)) (ps : Panel) → all (pairInside P) ps ≡ true → all (readInside P) (workedAt ps bs) ≡ true →
       Alone ps bs (keep (λ (w : Worked). belongs P (entryOf (w .entry))) (workedAt ps bs))
-  unfolding after answers workedAt
+  unfolding panels after answers workedAt
   alone [] ps h g = record { same-answers = refl; same-records = refl }
   alone (b ∷ bs) ps h g =
-      let now = entry-inside ps b (and-left (readInside P (sites ps) (answered ps b)) _ g) in
+      let now = entry-inside ps b (and-left (readInside P (answered ps b)) _ g) in
       let next = apply (entryOutcome ps (entryOf b)) ps in
-      let later = and-right (readInside P (sites ps) (answered ps b)) (all (readInside P (sites ps)) (workedAt next bs)) g in
+      let later = and-right (readInside P (answered ps b)) (all (readInside P) (workedAt next bs)) g in
       alone-step b bs _ ps h now
-      (alone bs next (apply-inside _ _ ps (sided P ps (entryOf b) h now) h) (rw (sites-apply (entryOutcome ps (entryOf b)) ps) later))
+      (alone bs next (apply-inside _ _ ps (sided P ps (entryOf b) h now) h) later)
 
   -- ── a list of runs from fresh
 
@@ -151,7 +151,7 @@ module _ (P : Part) where
   unfolding partRecords partWorked partEntries partAnswers
   alone-list h c =
       let ss = records (h .site) in
-      let a = alone (allEntries h) (freshPanel ss) (fresh-inside ss (c .site)) (rw (sites-fresh ss, ← worked-list h) (c .reads)) in
+      let a = alone (allEntries h) (freshPanel ss) (fresh-inside ss (c .site)) (rw (← worked-list h) (c .reads)) in
       rw (worked-list h, ended-panel h, ← fresh-part ss) (a .same-answers, a .same-records)
 
 -- Two lists with the same records and entries of the part: both are the part's list alone.

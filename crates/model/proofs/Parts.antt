@@ -7,14 +7,14 @@ use Rattle.octets.specs.Octets.{same}
 use Rattle.model.specs.Words.{all}
 use Rattle.model.specs.Site.{records}
 use Rattle.model.specs.Lists.{History, worked}
-use Rattle.model.specs.Part.{member, holds, belongs, onSide, pointInside, credentialInside, inside, identified, identifiedInside, readInside, partRecords, partWorked, partEntries, partAnswers, partState, Part}
+use Rattle.model.specs.Part.{member, holds, belongs, onSide, pointInside, credentialInside, inside, identifies, identified, identifiedInside, entryInside, readInside, partRecords, partWorked, partEntries, partAnswers, partState, Part}
 
 -- In its order: the border in both sites, the reads in both lists, the same records, the same
 -- entries; last the conclusion.
 unfoldable pub isolationTests : Part → History → History → List Bool
 isolationTests P g h =
     all (inside P) (records (g .site)) ∷ all (inside P) (records (h .site))
-    ∷ all (readInside P (records (g .site))) (worked g) ∷ all (readInside P (records (h .site))) (worked h)
+    ∷ all (readInside P) (worked g) ∷ all (readInside P) (worked h)
     ∷ same (flatten (partRecords P g)) (flatten (partRecords P h)) ∷ same (flatten (partEntries P g)) (flatten (partEntries P h))
     ∷ (same (flatten (partAnswers P g)) (flatten (partAnswers P h)) && same (flatten (partState P g)) (flatten (partState P h))) ∷ []
 
@@ -27,5 +27,5 @@ nothing i = false
 
 -- One name that opens these and the definitions of Part.
 unfoldable pub parts : Unit {0}
-unfolding isolationTests part nothing member holds belongs onSide pointInside credentialInside inside identified identifiedInside readInside partRecords partWorked partEntries partAnswers partState
+unfolding isolationTests part nothing member holds belongs onSide pointInside credentialInside inside identifies identified identifiedInside entryInside readInside partRecords partWorked partEntries partAnswers partState
 parts = tt

@@ -12,7 +12,7 @@ use Rattle.model.specs.Site.{records}
 use Rattle.model.specs.Accept.{inRange, twice, namesExist}
 use Rattle.model.specs.State.{Panel, panel, stateOf, fresh}
 use Rattle.model.specs.Entry.{entryOf, entries, answerBytes}
-use Rattle.model.specs.Step.{apply, entryOutcome, after, answers}
+use Rattle.model.specs.Step.{apply, entryOutcome, panels, after, answers}
 use Rattle.model.specs.Calls.{isWorked, checkSite, freshReturned, freshState, runReturned, runJournal}
 use Rattle.model.specs.Lists.{Run, runOn, stateAfter, Worked, withAnswers, answersIn, workedBy, workedIn, History, begun, ended, worked}
 use Rattle.model.proofs.Laws.{or-left}
@@ -90,12 +90,6 @@ unfolding answers
 length-answers [] ps = refl
 length-answers (e ∷ es) ps = ap suc (length-answers es (apply (entryOutcome ps e) ps))
 
-with-append : (es fs as′ bs : List (List ℕ)) → length es ≡ length as′ → withAnswers (es ++ fs) (as′ ++ bs) ≡ withAnswers es as′ ++ withAnswers fs bs
-with-append [] fs [] bs h = refl
-with-append [] fs (a ∷ as′) bs h = absurd (omega arith)
-with-append (e ∷ es) fs [] bs h = absurd (omega arith)
-with-append (e ∷ es) fs (a ∷ as′) bs h = ap (λ ws. record { entry = e; answer = a } ∷ ws) (with-append es fs as′ bs (omega arith))
-
 -- ── the answers' buffer
 
 pub answers-sized : (rs : List Answer) → Sized 16 (map answerBytes rs) ≡ true
@@ -114,9 +108,9 @@ answers-back rs =
 unfoldable pub entriesBy : List ℕ → List ℕ → Run → List (List ℕ)
 entriesBy site state r = if isWorked (runOn site state r .returned) then entries (r .journal) else []
 
--- The answers to a list of entries at a panel, with the entries.
+-- A list of entries at a panel, with the panels that they find and their answers.
 unfoldable pub workedAt : Panel → List (List ℕ) → List Worked
-workedAt ps es = withAnswers es (map answerBytes (answers ps (map entryOf es)))
+workedAt ps es = withAnswers (panels ps (map entryOf es)) es (map answerBytes (answers ps (map entryOf es)))
 
 module _ (site state : List ℕ) (r : Run) where
   -- A run that is worked leaves the state and the answers of its entries; one that is turned back leaves both as they were.
@@ -124,7 +118,7 @@ module _ (site state : List ℕ) (r : Run) where
   unfolding runOn runJournal
   run-state = refl
 
-  run-worked : workedBy r (runOn site state r) ≡ workedAt (panel site state) (entriesBy site state r)
+  run-worked : workedBy site state r ≡ workedAt (panel site state) (entriesBy site state r)
   unfolding runOn runJournal workedBy entriesBy workedAt
   run-worked = go (isWorked (runReturned site state (r .journal) (r .answers)))
     where
@@ -132,10 +126,10 @@ module _ (site state : List ℕ) (r : Run) where
       es = entries (r .journal)
 
       go : (c : Bool) →
-          (if c then withAnswers es (answersIn (if c then flatten (map answerBytes (answers (panel site state) (map entryOf es))) else r .answers)) else [])
-          ≡ withAnswers (if c then es else []) (map answerBytes (answers (panel site state) (map entryOf (if c then es else []))))
+          (if c then withAnswers (panels (panel site state) (map entryOf es)) es (answersIn (if c then flatten (map answerBytes (answers (panel site state) (map entryOf es))) else r .answers)) else [])
+          ≡ withAnswers (panels (panel site state) (map entryOf (if c then es else []))) (if c then es else []) (map answerBytes (answers (panel site state) (map entryOf (if c then es else []))))
       go true = rw (answers-back (answers (panel site state) (map entryOf es)))
-      go false = refl
+      go false = unfold panels in refl
 
   module _ (whole-site : length site % 32 ≡ 0) (same-length : length state ≡ length site) where
     pub run-panel : panel site (runOn site state r .state) ≡ after (panel site state) (map entryOf (entriesBy site state r))
@@ -161,11 +155,9 @@ entriesIn site state [] = []
 entriesIn site state (r ∷ rs) = entriesBy site state r ++ entriesIn site (runOn site state r .state) rs
 
 worked-append : (es fs : List (List ℕ)) (ps : Panel) → workedAt ps (es ++ fs) ≡ workedAt ps es ++ workedAt (after ps (map entryOf es)) fs
-unfolding workedAt
-worked-append es fs ps =
-    let l : length es ≡ length (map answerBytes (answers ps (map entryOf es))) = sym (length-map (answers ps (map entryOf es)) answerBytes ∙ length-answers (map entryOf es) ps ∙ length-map es entryOf) in
-    rw (map-append entryOf es fs, answers-append (map entryOf es) (map entryOf fs) ps, map-append answerBytes (answers ps (map entryOf es)) (answers (after ps (map entryOf es)) (map entryOf fs)))
-    (with-append es fs (map answerBytes (answers ps (map entryOf es))) (map answerBytes (answers (after ps (map entryOf es)) (map entryOf fs))) l)
+unfolding workedAt panels after answers
+worked-append [] fs ps = refl
+worked-append (e ∷ es) fs ps = ap (λ ws. record { found = ps; entry = e; answer = answerBytes (entryOutcome ps (entryOf e) .answer) } ∷ ws) (worked-append es fs (apply (entryOutcome ps (entryOf e)) ps))
 
 module _ (site : List ℕ) (whole-site : length site % 32 ≡ 0) where
   pub list-panel : (rs : List Run) (state : List ℕ) → length state ≡ length site →
@@ -181,7 +173,7 @@ module _ (site : List ℕ) (whole-site : length site % 32 ≡ 0) where
   pub list-worked : (rs : List Run) (state : List ℕ) → length state ≡ length site →
       workedIn site state rs ≡ workedAt (panel site state) (entriesIn site state rs)
   unfolding workedIn entriesIn
-  list-worked [] state h = unfold workedAt in refl
+  list-worked [] state h = unfold workedAt panels in refl
   list-worked (r ∷ rs) state h =
       ap₂ _++_ (run-worked site state r) (list-worked rs (runOn site state r .state) (run-length site state r whole-site h))
       ∙ ap (λ ps. workedAt (panel site state) (entriesBy site state r) ++ workedAt ps (entriesIn site (runOn site state r .state) rs)) (run-panel site state r whole-site h)

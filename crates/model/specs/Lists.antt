@@ -2,12 +2,14 @@
 -- the journals worked through, in turn; a journal turned back adds nothing."
 use Prim.Native.Nat.{ℕ, _*_, _/_}
 use mathlib.Core.Path.{_≡_}
-use mathlib.Core.List.{List, [], _∷_, _++_}
+use mathlib.Core.List.{List, [], _∷_, _++_, map}
 use lib.ListN.{length, take}
 use Rattle.octets.specs.Octets.{field, groups}
 use Rattle.model.specs.Words.{if_then_else_}
 use Rattle.model.specs.Numbers.{entry-size, answer-size}
-use Rattle.model.specs.Entry.{entries}
+use Rattle.model.specs.State.{Panel, panel}
+use Rattle.model.specs.Entry.{entries, entryOf}
+use Rattle.model.specs.Step.{panels}
 use Rattle.model.specs.Calls.{isWorked, freshState, RunResult, runJournal}
 use Rattle.model.specs.declared.Returned.{Returned}
 use Rattle.model.specs.declared.Returned.the-variants.{WorkedThrough}
@@ -31,30 +33,34 @@ unfoldable pub returns : List ℕ → List ℕ → List Run → List Returned
 returns site state [] = []
 returns site state (r ∷ rs) = runOn site state r .returned ∷ returns site (runOn site state r .state) rs
 
--- An entry worked through, with its answer.
+-- An entry worked through, with the panel that it found and its answer.
 pub record Worked : Type 0 where
+  pub found : Panel
   pub entry : List ℕ
   pub answer : List ℕ
 
--- Entries with their answers, in turn.
-abbrev pub withAnswers : List (List ℕ) → List (List ℕ) → List Worked
-withAnswers [] bs = []
-withAnswers (e ∷ es) [] = []
-withAnswers (e ∷ es) (b ∷ bs) = record { entry = e; answer = b } ∷ withAnswers es bs
+-- Entries with the panels that they found and their answers, in turn.
+abbrev pub withAnswers : List Panel → List (List ℕ) → List (List ℕ) → List Worked
+withAnswers [] es bs = []
+withAnswers (ps ∷ pss) [] bs = []
+withAnswers (ps ∷ pss) (e ∷ es) [] = []
+withAnswers (ps ∷ pss) (e ∷ es) (b ∷ bs) = record { found = ps; entry = e; answer = b } ∷ withAnswers pss es bs
 
 -- The answers of a buffer, 16 bytes each.
 unfoldable pub answersIn : List ℕ → List (List ℕ)
 answersIn answers = groups answer-size (length answers / answer-size) answers
 
 -- "those of the journals worked through .. a journal turned back adds nothing".
-unfoldable pub workedBy : Run → RunResult → List Worked
-workedBy r result =
-    if isWorked (result .returned) then withAnswers (entries (r .journal)) (answersIn (result .answers)) else []
+unfoldable pub workedBy : List ℕ → List ℕ → Run → List Worked
+workedBy site state r =
+    if isWorked (runOn site state r .returned)
+    then withAnswers (panels (panel site state) (map entryOf (entries (r .journal)))) (entries (r .journal)) (answersIn (runOn site state r .answers))
+    else []
 
 -- The entries of a list, with their answers.
 unfoldable pub workedIn : List ℕ → List ℕ → List Run → List Worked
 workedIn site state [] = []
-workedIn site state (r ∷ rs) = workedBy r (runOn site state r) ++ workedIn site (runOn site state r .state) rs
+workedIn site state (r ∷ rs) = workedBy site state r ++ workedIn site (runOn site state r .state) rs
 
 -- What the theorems read of an answer.
 abbrev pub eventIn : List ℕ → ℕ

@@ -8,9 +8,10 @@ use Rattle.model.specs.Words.{if_then_else_, keep, all, missing}
 use Rattle.model.specs.Numbers as n
 use Rattle.model.specs.Numbers.{NONE}
 use Rattle.model.specs.Site.{zoneId, pointId, credentialId, rightsId, records, kind, recordKind, instance, pointOf, credentialOf, findIn}
-use Rattle.model.specs.State.{Pair, panel}
+use Rattle.model.specs.State.{Pair, Panel, panel, sites, find}
 use Rattle.model.specs.Entry.{entryOf, operationOf, objectKind}
-use Rattle.model.specs.Checks.{identifying}
+use Rattle.model.specs.Checks.{stillLocked, waiting, identifying}
+use Rattle.model.specs.Step.{situationOf}
 use Rattle.model.specs.Lists.{Worked, refusalIn, History, ended, worked}
 use Rattle.model.specs.declared.RecordKind.{RecordKind}
 use Rattle.model.specs.declared.RecordKind.the-variants.{OfZone, OfPoint, OfRule, OfCredential, OfFactor, OfUnknown}
@@ -19,6 +20,7 @@ use Rattle.model.specs.declared.PointId.{PointId}
 use Rattle.model.specs.declared.CredentialId.{CredentialId}
 use Rattle.model.specs.declared.RightsId.{RightsId}
 use Rattle.model.specs.declared.Entry.{Entry}
+use Rattle.model.specs.declared.Situation.{Situation}
 use Rattle.model.specs.declared.Operation.{Operation}
 use Rattle.model.specs.declared.Operation.the-variants.{Factor, SetCount, AdjustCount, SetDisable, SetService, Unknown}
 
@@ -76,7 +78,12 @@ insideAs OfUnknown P s = true
 unfoldable pub inside : Part → List ℕ → Bool
 inside P s = insideAs (recordKind s) P s
 
--- ── "In both lists: no factor read names, as identifying factor, a credential across the border." Asked of reads that are not refused.
+-- ── "In both lists: no factor read names, as identifying factor, a credential across the border." Asked of the reads that come to step 3 for
+-- nobody waiting: no other read is taken as an identifying factor, whatever card it is.
+
+-- A read comes to step 3 for nobody waiting: the point is in service, not locked and waits for nobody, and the format is not 1.
+unfoldable pub identifies : Situation → Entry → Bool
+identifies v e = not (v .point .«out_of_service» || stillLocked v e || waiting v || eqb (e .argument) n.format-error)
 
 -- The factor that a read names "as identifying factor".
 unfoldable pub identified : List (List ℕ) → Entry → List ℕ
@@ -88,25 +95,28 @@ identifiedInside P ss e =
     missing (identified ss e)
     || Bool·beq (member P n.access-credential (instance (identified ss e))) (member P n.access-point (e .instance))
 
--- Asked of factor reads alone.
-abbrev pub readInsideAs : Operation → Part → List (List ℕ) → Entry → Bool
-readInsideAs Factor P ss e = identifiedInside P ss e
-readInsideAs SetCount P ss e = true
-readInsideAs AdjustCount P ss e = true
-readInsideAs SetDisable P ss e = true
-readInsideAs SetService P ss e = true
-readInsideAs Unknown P ss e = true
+-- Asked of factor reads alone; x is the point's records.
+abbrev pub readInsideAs : Operation → Part → Panel → Entry → Pair → Bool
+readInsideAs Factor P ps e x = not (identifies (situationOf ps e x) e) || identifiedInside P (sites ps) e
+readInsideAs SetCount P ps e x = true
+readInsideAs AdjustCount P ps e x = true
+readInsideAs SetDisable P ps e x = true
+readInsideAs SetService P ps e x = true
+readInsideAs Unknown P ps e x = true
+
+-- An entry at the panel that it found.
+unfoldable pub entryInside : Part → Panel → Entry → Bool
+entryInside P ps e =
+    readInsideAs (operationOf (e .operation)) P ps e (find (objectKind (operationOf (e .operation))) (e .instance) ps)
 
 -- Asked where the answer has refusal 0.
-unfoldable pub readInside : Part → List (List ℕ) → Worked → Bool
-readInside P ss w =
-    not (eqb (refusalIn (w .answer)) n.not-refused)
-    || readInsideAs (operationOf (entryOf (w .entry) .operation)) P ss (entryOf (w .entry))
+unfoldable pub readInside : Part → Worked → Bool
+readInside P w = not (eqb (refusalIn (w .answer)) n.not-refused) || entryInside P (w .found) (entryOf (w .entry))
 
 -- The premises on one list.
 pub record SelfContained (P : Part) (h : History) : Type 0 where
   pub site : all (inside P) (records (h .site)) ≡ true
-  pub reads : all (readInside P (records (h .site))) (worked h) ≡ true
+  pub reads : all (readInside P) (worked h) ≡ true
 
 -- ── the part's records in file order, its entries and their answers in order, and the state records of its records in file order
 

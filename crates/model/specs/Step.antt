@@ -235,7 +235,12 @@ apply o ps =
     (write (o .«zone_to» .written) n.access-zone (o .«zone_to» .instance .0) (zoneBytes (o .«zone_to» .count))
     (write (o .«zone_from» .written) n.access-zone (o .«zone_from» .instance .0) (zoneBytes (o .«zone_from» .count)) ps)))
 
--- ── a list of entries: the panel after it, and the answers
+-- ── a list of entries: the panel that each finds, the panel after the last, and the answers
+
+-- The panel that each of the entries finds.
+unfoldable pub panels : Panel → List Entry → List Panel
+panels ps [] = []
+panels ps (e ∷ es) = ps ∷ panels (apply (entryOutcome ps e) ps) es
 
 -- The panel after the entries, in turn.
 unfoldable pub after : Panel → List Entry → Panel
