@@ -9,19 +9,10 @@ use borrow.Author.Tests.{eqb-true, not-false}
 use Rattle.model.specs.Calls.{isWorked, freshReturned, runReturned, runJournal}
 use Rattle.model.specs.Lists.{runOn}
 use Rattle.model.proofs.Runs.{worked-through, site-accepted, site-worked, passed-check}
-use Rattle.model.proofs.Entries.{run-accepted}
+use Rattle.model.proofs.Entries.{lengths, run-accepted}
 use Rattle.model.specs.declared.Returned.the-variants.{WorkedThrough, StateLength}
 
--- Site and state of whole records, one as long as the other.
-pub lengths : (site state : List ℕ) → isWorked (freshReturned site state) ≡ true → (length site % 32 ≡ 0) × (length state ≡ length site)
-unfolding freshReturned isWorked
-lengths site state w =
-    let f = worked-through (freshReturned site state) w in
-    let s = site-worked site state f in
-    let p = passed-check (not (eqb (length state) (length site))) StateLength WorkedThrough refl (rw s at f) in
-    (site-accepted site s .whole-records, eqb-true (length state) (length site) (not-false _ (p .0)))
-
--- And answers of 16 bytes for each entry.
+-- Site and state of whole records, one as long as the other, and answers of 16 bytes for each entry.
 pub run-lengths : (site state journal answers : List ℕ) → isWorked (runReturned site state journal answers) ≡ true →
     ((length site % 32 ≡ 0) × (length state ≡ length site)) × (length answers ≡ length journal / 24 * 16)
 unfolding runOn runJournal

@@ -18,12 +18,21 @@ use Rattle.model.specs.Step.{apply, entryOutcome, after, answers}
 use Rattle.model.specs.Calls.{isWorked, freshReturned, checkState, runReturned, runJournal}
 use Rattle.model.specs.Lists.{Run, runOn, answersIn, firstOf}
 use Rattle.model.proofs.Laws.{or-left, or-right}
-use Rattle.model.proofs.Runs.{passed-check, worked-through, answers-back}
+use Rattle.model.proofs.Runs.{passed-check, worked-through, site-accepted, site-worked, answers-back}
 use Rattle.model.specs.declared.Entry.{Entry}
 use Rattle.model.specs.declared.Returned.{Returned}
-use Rattle.model.specs.declared.Returned.the-variants.{WorkedThrough, StateForm, JournalLength, AnswersLength}
+use Rattle.model.specs.declared.Returned.the-variants.{WorkedThrough, StateLength, StateForm, JournalLength, AnswersLength}
 
 -- ── what a worked run passed
+
+-- Site and state of whole records, one as long as the other.
+pub lengths : (site state : List ℕ) → isWorked (freshReturned site state) ≡ true → (length site % 32 ≡ 0) × (length state ≡ length site)
+unfolding freshReturned isWorked
+lengths site state w =
+    let f = worked-through (freshReturned site state) w in
+    let s = site-worked site state f in
+    let p = passed-check (not (eqb (length state) (length site))) StateLength WorkedThrough refl (rw s at f) in
+    (site-accepted site s .whole-records, eqb-true (length state) (length site) (not-false _ (p .0)))
 
 pub record RunAccepted (site state : List ℕ) (r : Run) : Type 0 where
   pub fresh-worked : isWorked (freshReturned site state) ≡ true

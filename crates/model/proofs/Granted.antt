@@ -12,23 +12,23 @@ use Rattle.octets.proofs.Laws.{same-refl}
 use Rattle.model.specs.Words.{if_then_else_, any, all, missing}
 use Rattle.model.specs.Numbers as n
 use Rattle.model.specs.Numbers.{NONE}
-use Rattle.model.specs.Site.{credentialId, records, kind, instance, role, pointOf, isAt, findIn}
+use Rattle.model.specs.Site.{pointId, credentialId, records, kind, instance, enabled, negative, role, pointOf, isAt, findIn}
 use Rattle.model.specs.State.{Pair, Panel, sites, find, pointStateOf, count, recordWell, panel, wellFormed}
 use Rattle.model.specs.Entry.{entryOf, entries, operationOf, objectKind, inForm}
-use Rattle.model.specs.Checks.{stillLocked, waiting, overdue, presents, identifying, confirming, factorFor, credentialRead, disabledFactor, firstOfTwo, authenticationOf, authentication, inactive, validityOf, validity, passbackViolated, atLowerLimit, atUpperLimit, authorizationOf, authorization, passage, permission, entitlement, eventOf}
+use Rattle.model.specs.Checks.{stillLocked, waiting, overdue, presents, identifying, confirming, factorFor, credentialRead, disabledFactor, firstOfTwo, authenticationOf, authentication, inactive, validityOf, validity, ofRights, enabledRule, locationFits, timeFits, verdict, passbackViolated, atLowerLimit, atUpperLimit, authorizationOf, authorization, passage, permission, entitlement, eventOf}
 use Rattle.model.specs.Effects.{named, answerWith, outcomeWith, outcomeOf}
 use Rattle.model.specs.Step.{noAnswer, zoneTo, unchanged, refuse, factorRead, numberRead, situationOf, rulesAt, factorOutcome, countOutcome, adjusted, adjustOutcome, disableOutcome, locks, serviceOutcome, workedOutcome, outcomeAs, entryOutcome, after, credentialAt}
-use Rattle.model.specs.Earned.{Authorized, EarnedAt, Earned}
-use Rattle.model.specs.Lists.{runOn, firstOf, eventIn, credentialIn, ended}
-use Rattle.model.specs.Demands.{GrantEarned, WellFormed}
+use Rattle.model.specs.Earned.{FittingRule, forbidden, Authorized, EarnedAt, Earned}
+use Rattle.model.specs.Calls.{freshReturned}
+use Rattle.model.specs.Lists.{runOn, firstOf, eventIn, credentialIn}
+use Rattle.model.specs.Demands.{GrantEarned}
 use Rattle.model.proofs.Laws.{if-holds, and-left, and-right, found-in}
 use Rattle.model.proofs.RoundTrip.{event-back, credential-named-back}
 use Rattle.model.proofs.Flat.{sites-after, sites-panel, panel-back}
-use Rattle.model.proofs.Runs.{accepted, ended-length}
-use Rattle.model.proofs.Entries.{state-at, answer-at}
+use Rattle.model.proofs.Runs.{site-accepted, site-worked, worked-through}
+use Rattle.model.proofs.Entries.{lengths, run-accepted, state-at, answer-at}
 use Rattle.model.proofs.Well.{credential-sought}
 use Rattle.model.proofs.WellStep.{well-after}
-use Rattle.model.proofs.KeptWell.{well-formed}
 use Rattle.model.specs.declared.CredentialId.{CredentialId}
 use Rattle.model.specs.declared.Situation.{Situation}
 use Rattle.model.specs.declared.Verdict.{Verdict}
@@ -62,6 +62,7 @@ disabled-factor d =
 record Authenticated (v : Situation) (e : Entry) : Type 0 where
   not-locked : stillLocked v e ≡ false
   in-time : overdue v e ≡ false
+  no-error : eqb (e .argument) 1 ≡ false
   matched : v .matched ≡ true
   factor-enabled : v .«factor_disable» ≡ 0
   not-first : firstOfTwo v ≡ false
@@ -79,6 +80,7 @@ authenticated v e next h =
       record {
         not-locked = a .0;
         in-time = b .0;
+        no-error = c .0;
         matched = not-false (v .matched) (d .0);
         factor-enabled = eqb-true (v .«factor_disable») 0 (not-false (eqb (v .«factor_disable») 0) (f .0));
         not-first = g .0;
@@ -121,43 +123,109 @@ valid v e next h =
       j .1,
     )
 
--- Steps 7 to 10.
-authorized : (v : Situation) (rules : Verdict) (e : Entry) (next : ℕ) → authorization (authorizationOf v rules e) next ≡ 1 → Authorized v rules e
+-- A record of a list that passes a test.
+record Some (q : List ℕ → Bool) (ss : List (List ℕ)) : Type 0 where
+  one : List ℕ
+  among : any (same one) ss ≡ true
+  passes : q one ≡ true
+
+-- Where any does.
+some : (q : List ℕ → Bool) (ss : List (List ℕ)) → any q ss ≡ true → Some q ss
+some q [] h = record { one = []; among = h; passes = cc }
+some q (s ∷ ss) h = go (q s) refl h (some q ss)
+  where
+    go : (c : Bool) → q s ≡ c → c || any q ss ≡ true → (any q ss ≡ true → Some q ss) → Some q (s ∷ ss)
+    go true p h later = record { one = s; among = rw (same-refl s); passes = p }
+    go false p h later =
+        let x = later h in
+        record { one = x .one; among = rw (x .among, or-true); passes = x .passes }
+
+-- Step 9: the rules at the point of a situation.
+module _ (v : Situation) (ss : List (List ℕ)) (e : Entry) where
+  -- What they say.
+  unfoldable said : Verdict
+  said = verdict (v .credential .«first_rights») (v .credential .«second_rights») (pointId (e .instance)) (v .point .«zone_to») (e .time) ss
+
+  -- A positive rule that fits is in the site.
+  positive-rule : said .«positive_fits» ≡ true → FittingRule v ss e
+  unfolding said verdict enabledRule
+  positive-rule h =
+      let x = some _ ss h in
+      let s = x .one in
+      let rights = ofRights (v .credential .«first_rights») s || ofRights (v .credential .«second_rights») s in
+      let located = locationFits (pointId (e .instance)) (v .point .«zone_to») s in
+      let a = and-left (rights && enabled s) (not (negative s) && located && timeFits (e .time) s) (x .passes) in
+      let b = and-right (rights && enabled s) (not (negative s) && located && timeFits (e .time) s) (x .passes) in
+      let c = and-left (not (negative s) && located) (timeFits (e .time) s) b in
+      record {
+        rule = s;
+        in-site = x .among;
+        of-rights = and-left rights (enabled s) a;
+        is-enabled = and-right rights (enabled s) a;
+        is-positive = not-true (negative s) (and-left (not (negative s)) located c);
+        place-fits = and-right (not (negative s)) located c;
+        time-fits = and-right (not (negative s) && located) (timeFits (e .time) s) b;
+      }
+
+  -- No negative rule fits.
+  negative-rule : said .«negative_fits» ≡ false → forbidden v ss e ≡ false
+  unfolding said verdict forbidden
+  negative-rule h = h
+
+-- Steps 7 to 10, and what is next.
+authorized : (v : Situation) (ss : List (List ℕ)) (e : Entry) (next : ℕ) → authorization (authorizationOf v (said v ss e) e) next ≡ 1 →
+    Authorized v ss e × (next ≡ 1)
 unfolding authorizationOf
-authorized v rules e next h =
+authorized v ss e next h =
+    let rules = said v ss e in
     let a = passed (eqb (v .point .mode) 2) 128 _ (λ z. omega arith) h in
     let b = passed (ltb (v .credential .«threat_authority») (v .point .«threat_level»)) 137 _ (λ z. omega arith) (a .1) in
     let c = passed (eqb (v .point .mode) 0 && rules .«negative_fits») 135 _ (λ z. omega arith) (b .1) in
     let d = passed (eqb (v .point .mode) 0 && not (rules .«positive_fits»)) _ _ (either (rules .«positive_located») 136 _ (λ z. omega arith) (either (not (eqb (v .point .«zone_to» .0) NONE)) 133 134 (λ z. omega arith) (λ z. omega arith))) (c .1) in
     let f = passed (passbackViolated v e && eqb (v .«zone_to» .passback) 1) 138 _ (λ z. omega arith) (d .1) in
     let g = passed (atLowerLimit v) 141 _ (λ z. omega arith) (f .1) in
-    let i = passed (atUpperLimit v) 142 _ (λ z. omega arith) (g .1) in
-    record {
-      not-deny-all = a .0;
-      authority = ltb-false (v .credential .«threat_authority») (v .point .«threat_level») (b .0);
-      positive = λ m. not-false (rules .«positive_fits») (rw (eq-eqb (v .point .mode) 0 m) at (d .0));
-      no-negative = λ m. rw (eq-eqb (v .point .mode) 0 m) at (c .0);
-      no-hard-passback = f .0;
-      above-lower-limit = g .0;
-      below-upper-limit = i .0;
-    }
+    let i = passed (atUpperLimit v) 142 _ (λ z. omega arith) (g .1) in (
+      record {
+        not-deny-all = a .0;
+        authority = ltb-false (v .credential .«threat_authority») (v .point .«threat_level») (b .0);
+        fitting-rule = λ m. positive-rule v ss e (not-false (rules .«positive_fits») (rw (eq-eqb (v .point .mode) 0 m) at (d .0)));
+        not-forbidden = λ m. negative-rule v ss e (rw (eq-eqb (v .point .mode) 0 m) at (c .0));
+        no-hard-passback = f .0;
+        above-lower-limit = g .0;
+        below-upper-limit = i .0;
+      },
+      i .1,
+    )
+
+-- Step 11.
+counted : (v : Situation) → passage v 1 ≡ 1 → v .point .«count_adjust» && v .«zone_to» .counting && eqb (v .«count_to») n.largest-count ≡ false
+unfolding passage
+counted v h = passed (v .point .«count_adjust» && v .«zone_to» .counting && eqb (v .«count_to») n.largest-count) 164 1 (λ z. omega arith) h .0
 
 -- All of the order of checks; master exemption skips steps 7 to 10.
-record Passed (v : Situation) (rules : Verdict) (e : Entry) : Type 0 where
+record Passed (v : Situation) (ss : List (List ℕ)) (e : Entry) : Type 0 where
   authentic : Authenticated v e
   is-valid : Valid v e
-  is-authorized : v .credential .master ≡ false → Authorized v rules e
+  is-authorized : v .credential .master ≡ false → Authorized v ss e
+  is-countable : v .point .«count_adjust» && v .«zone_to» .counting && eqb (v .«count_to») n.largest-count ≡ false
 
-passed-all : (v : Situation) (rules : Verdict) (e : Entry) → eventOf v rules e ≡ 1 → Passed v rules e
-unfolding eventOf entitlement permission
-passed-all v rules e h =
+-- Steps 6 to 11.
+permitted : (v : Situation) (ss : List (List ℕ)) (e : Entry) → permission v (said v ss e) e 1 ≡ 1 →
+    (v .credential .master ≡ false → Authorized v ss e) × (passage v 1 ≡ 1)
+unfolding permission
+permitted v ss e h = ((λ m. authorized v ss e (passage v 1) (unless (v .credential .master) (passage v 1) _ m h) .0), go (v .credential .master) h)
+  where
+    go : (c : Bool) → (if c then passage v 1 else authorization (authorizationOf v (said v ss e) e) (passage v 1)) ≡ 1 → passage v 1 ≡ 1
+    go true h = h
+    go false h = authorized v ss e (passage v 1) h .1
+
+passed-all : (v : Situation) (ss : List (List ℕ)) (e : Entry) → eventOf v (said v ss e) e ≡ 1 → Passed v ss e
+unfolding eventOf entitlement
+passed-all v ss e h =
     let a = authenticated v e _ h in
     let b = valid v e _ (a .1) in
-    record {
-      authentic = a .0;
-      is-valid = b .0;
-      is-authorized = λ m. authorized v rules e (passage v 1) (unless (v .credential .master) (passage v 1) _ m (b .1));
-    }
+    let c = permitted v ss e (b .1) in
+    record { authentic = a .0; is-valid = b .0; is-authorized = c .0; is-countable = counted v (c .1) }
 
 -- ── the entry that is granted
 
@@ -246,15 +314,16 @@ no-disable d l a b c =
 -- The situation of a granted entry, at the point's records p. The credential's disable is in range in a well-formed state.
 granted-situation : (ps : Panel) (e : Entry) (p : Pair) → pointOf (p .0) .«out_of_service» ≡ false →
     leb (situationOf ps e p .«credential_state» .disable) 3 ≡ true → eventOf (situationOf ps e p) (rulesAt ps e p) e ≡ 1 →
-    EarnedAt (situationOf ps e p) (rulesAt ps e p) (sites ps) (factorRead ps e p) e (numberRead ps e p)
-unfolding situationOf factorRead numberRead waiting
+    EarnedAt (situationOf ps e p) (sites ps) (factorRead ps e p) e (numberRead ps e p)
+unfolding situationOf factorRead numberRead rulesAt said waiting
 granted-situation ps e p s d h =
-    let a = passed-all (situationOf ps e p) (rulesAt ps e p) e h in
+    let a = passed-all (situationOf ps e p) (sites ps) e h in
     let c = a .is-valid in
     let m = matched (pointStateOf (p .1) .«waiting_credential») e (sites ps) (not-true (missing (factorRead ps e p)) (a .authentic .matched)) in
     record {
       in-service = s;
       not-locked = a .authentic .not-locked;
+      no-error = a .authentic .no-error;
       in-site = m .in-site;
       matched = m .passes;
       of-credential = m .of-credential;
@@ -268,6 +337,7 @@ granted-situation ps e p s d h =
       uses-left = positive (situationOf ps e p .«credential_state» .uses) (c .uses);
       not-absent = c .not-absent;
       authorized = a .is-authorized;
+      countable = a .is-countable;
     }
   where
     positive : (k : ℕ) → eqb k 0 ≡ false → 0 < k
@@ -351,20 +421,21 @@ earned-entry ps e w h =
     disable-well : (ps : Panel) (e : Entry) (p : Pair) → all (recordWell (sites ps)) ps ≡ true → leb (situationOf ps e p .«credential_state» .disable) 3 ≡ true
     disable-well ps e p w = unfold situationOf credentialAt in credential-sought (sites ps) ps w (numberRead ps e p .0) .disabled
 
--- ── lists of runs from fresh
+-- ── every run that is worked through
 
 pub grant-earned : GrantEarned
-unfolding GrantEarned WellFormed wellFormed
-grant-earned h r i w l g =
-    let site = h .site in
-    let state = ended h in
+unfolding GrantEarned wellFormed
+grant-earned site state r i w l g =
+    let passed-run = run-accepted site state r w in
+    let accept = site-accepted site (site-worked site state (worked-through (freshReturned site state) (passed-run .fresh-worked))) in
+    let long = lengths site state (passed-run .fresh-worked) .1 in
     let es = map entryOf (entries (r .journal)) in
     let ps = after (panel site state) (take i es) in
     let e = entryOf (getD (entries (r .journal)) i []) in
     let a = answer-at site state r w i l in
     let s : sites ps ≡ records site = sites-after (take i es) (panel site state) ∙ sites-panel site state in
-    let k = well-after (records site) (accepted h .names-exist) (take i es) (panel site state) (sites-panel site state) (well-formed h .0) in
+    let k = well-after (records site) (accept .names-exist) (take i es) (panel site state) (sites-panel site state) (passed-run .well) in
     let v : entryOutcome ps e .answer .event ≡ 1 = sym (ap eventIn a ∙ event-back (entryOutcome ps e .answer)) ∙ g in
     let m = earned-entry ps e (rw s k) v in
-    let b : panel site (runOn site state (firstOf i r) .state) ≡ ps = ap (panel site) (state-at site state r w i (omega arith)) ∙ panel-back site (accepted h .whole-records) state (ended-length h) (take i es) in
+    let b : panel site (runOn site state (firstOf i r) .state) ≡ ps = ap (panel site) (state-at site state r w i (omega arith)) ∙ panel-back site (accept .whole-records) state long (take i es) in
     (m .0, rw (b, ap credentialIn a ∙ credential-named-back (entryOutcome ps e .answer)) (m .1))

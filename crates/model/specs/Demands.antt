@@ -1,5 +1,5 @@
--- What is proved over the definitions: each statement is a type, and proofs/ has a theorem of it. Each is about whole lists of runs from
--- fresh, by `freshState` and `runJournal` themselves.
+-- What is proved over the definitions, by `freshState` and `runJournal` themselves: each statement is a type, and proofs/ has a theorem of it. The
+-- count, the part and the well-formed state are about whole lists of runs from fresh; the others about every site, state and run.
 use Prim.Native.Nat.{ℕ, suc, _/_, _<_}
 use mathlib.Core.Path.{_≡_}
 use mathlib.Core.List.{List, []}
@@ -62,13 +62,13 @@ Refused =
     × (getD (answersIn (runOn site state r .answers)) i []
     ≡ answerBytes (noAnswer (refusalIn (getD (answersIn (runOn site state r .answers)) i [])) 0 0))
 
--- A grant is earned: after every list from fresh, whenever run r answers its entry i with event 1, the entry is a factor read and, in
--- the state that it found, all of `Earned` held.
+-- A grant is earned: on every site and state, whenever a run that is worked through answers its entry i with event 1, the entry is a factor
+-- read and, in the state that it found, all of `Earned` held.
 unfoldable pub GrantEarned : Type 0
 GrantEarned =
-    (h : History) (r : Run) (i : ℕ) → isWorked (runOn (h .site) (ended h) r .returned) ≡ true →
+    (site state : List ℕ) (r : Run) (i : ℕ) → isWorked (runOn site state r .returned) ≡ true →
     i < length (r .journal) / n.entry-size →
-    eventIn (getD (answersIn (runOn (h .site) (ended h) r .answers)) i []) ≡ n.granted →
+    eventIn (getD (answersIn (runOn site state r .answers)) i []) ≡ n.granted →
     (operationOf (entryOf (getD (entries (r .journal)) i []) .operation) ≡ Factor)
-    × Earned (panel (h .site) (runOn (h .site) (ended h) (firstOf i r) .state)) (entryOf (getD (entries (r .journal)) i []))
-    (credentialId (credentialIn (getD (answersIn (runOn (h .site) (ended h) r .answers)) i [])))
+    × Earned (panel site (runOn site state (firstOf i r) .state)) (entryOf (getD (entries (r .journal)) i []))
+    (credentialId (credentialIn (getD (answersIn (runOn site state r .answers)) i [])))
