@@ -13,10 +13,15 @@ use Rattle.model.specs.Lists.{eventIn, answersIn, Run, History}
 use Rattle.model.specs.Print.{fromFresh}
 use Rattle.model.specs.declared.Returned.the-variants.{WorkedThrough}
 
--- A counting zone with its upper limit; the same with the passback and its timeout.
+-- A counting zone with its upper limit.
 unfoldable pub zone : ℕ → ℕ → List ℕ
 zone i upper = (n.access-zone ∷ 1 ∷ 0 ∷ 0 ∷ []) ++ digits 4 i ++ digits 4 upper ++ zeros 20
 
+-- A counting zone with its lower limit.
+unfoldable pub lowerZone : ℕ → ℕ → List ℕ
+lowerZone i lower = (n.access-zone ∷ 1 ∷ 0 ∷ 0 ∷ []) ++ digits 4 i ++ zeros 4 ++ digits 4 lower ++ zeros 16
+
+-- A zone with its passback and the passback's timeout.
 unfoldable pub passbackZone : ℕ → ℕ → ℕ → List ℕ
 passbackZone i passback timeout =
     (n.access-zone ∷ 0 ∷ passback ∷ 0 ∷ []) ++ digits 4 i ++ zeros 8 ++ digits 4 timeout ++ zeros 12
@@ -53,6 +58,12 @@ unfoldable pub absentCredential : ℕ → ℕ → List ℕ
 absentCredential i days =
     (n.access-credential ∷ 0 ∷ 0 ∷ 0 ∷ []) ++ digits 4 i ++ digits 4 0 ++ digits 4 NEVER ++ digits 2 UNLIMITED ++ digits 2 UNLIMITED
     ++ digits 2 days ++ zeros 2 ++ digits 4 NONE ++ digits 4 NONE
+
+-- A credential with both rights numbers.
+unfoldable pub ruledCredential : ℕ → ℕ → ℕ → List ℕ
+ruledCredential i first second =
+    (n.access-credential ∷ 0 ∷ 0 ∷ 0 ∷ []) ++ digits 4 i ++ digits 4 0 ++ digits 4 NEVER ++ digits 2 UNLIMITED ++ digits 2 UNLIMITED
+    ++ digits 2 UNLIMITED ++ zeros 2 ++ digits 4 first ++ digits 4 second
 
 unfoldable pub factor : ℕ → ℕ → ℕ → List ℕ
 factor role i value = (n.authentication-factor ∷ 0 ∷ role ∷ 0 ∷ []) ++ digits 4 i ++ (2 ∷ zeros 7) ++ digits 4 0 ++ digits 4 value ++ zeros 8
@@ -112,5 +123,5 @@ history site journals accepted =
 
 -- One name that opens them all.
 unfoldable pub examples : Unit {0}
-unfolding zone passbackZone point lockingPoint threatPoint credential limitedCredential absentCredential factor card rule everyRule read adjust setDisable lock cut runOf events run history
+unfolding zone lowerZone passbackZone point lockingPoint threatPoint credential limitedCredential absentCredential ruledCredential factor card rule everyRule read adjust setDisable lock cut runOf events run history
 examples = tt

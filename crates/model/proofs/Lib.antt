@@ -19,3 +19,4 @@ pub mod WellStep
 pub mod KeptWell
 pub mod Untouched
 pub mod Granted
+pub mod Instances
