@@ -16,8 +16,9 @@ pub enum Verdict {
     NotEnded,
 }
 
-/// The modules of the model's proofs that the cases rest on.
+/// The modules of the model's proofs that the cases rest on, and those that are cases themselves.
 const BASE: [&str; 3] = ["Open", "Build", "Parts"];
+const COMPUTED: [&str; 3] = ["Cases", "Applied", "Premises"];
 const LIMIT: Duration = Duration::from_secs(180);
 
 pub struct WorkingCopy {
@@ -60,17 +61,18 @@ impl WorkingCopy {
         }
         let read = |path: &Path| fs::read_to_string(path).or_else(|e| failed(path, e));
         let mut list = String::new();
-        for name in BASE {
+        for name in BASE.iter().chain(&COMPUTED) {
             let file = format!("model/proofs/{name}.antt");
             write(&to(&file), &read(&from(&file))?)?;
             list += &format!("pub mod {name}\n");
         }
-        let cases: Vec<String> = case_names(&read(&from("cases/proofs/Lib.antt"))?);
+        let mut cases: Vec<String> = case_names(&read(&from("cases/proofs/Lib.antt"))?);
         for name in &cases {
             let text = read(&from(&format!("cases/proofs/{name}.antt")))?;
             write(&to(&format!("model/proofs/{name}.antt")), &in_model(&text))?;
             list += &format!("pub mod {name}\n");
         }
+        cases.extend(COMPUTED.map(str::to_string));
         write(&to("model/proofs/Lib.antt"), &list)?;
         Ok(WorkingCopy {
             root: root.to_path_buf(),
