@@ -8,7 +8,9 @@ use std::fs;
 use std::path::PathBuf;
 use std::process::{Command, Output};
 use warblehay::numbers::*;
-use warblehay::{check_state, fresh_state, place_of_credential, place_of_point, place_of_zone, run_journal};
+use warblehay::{
+    check_state, fresh_state, place_of_credential, place_of_point, place_of_zone, run_journal,
+};
 
 const ZONE: u32 = 1;
 const POINT: u32 = 2;
@@ -29,28 +31,51 @@ fn read(time: u32, point: u32, credential: u32) -> EntryFields {
 
 fn zone() -> Record {
     let flags = 1 << ZONE_FLAG_COUNTING;
-    Zone { flags, ..Zone::new(ZONE) }.record()
+    Zone {
+        flags,
+        ..Zone::new(ZONE)
+    }
+    .record()
 }
 
 fn point(instance: u32) -> Point {
-    Point { authorization_mode: MODE_GRANT_ACTIVE, ..Point::new(instance) }
+    Point {
+        authorization_mode: MODE_GRANT_ACTIVE,
+        ..Point::new(instance)
+    }
 }
 
 /// A point that grants and counts into the zone.
 fn entrance() -> Record {
     let flags = 1 << POINT_FLAG_COUNT_ADJUST;
-    Point { flags, zone_to: ZONE, ..point(POINT) }.record()
+    Point {
+        flags,
+        zone_to: ZONE,
+        ..point(POINT)
+    }
+    .record()
 }
 
 /// Credential 5 has one use.
 fn credential(instance: u32) -> Record {
     let uses = if instance == 5 { 1 } else { UNLIMITED };
-    Credential { uses, ..Credential::new(instance) }.record()
+    Credential {
+        uses,
+        ..Credential::new(instance)
+    }
+    .record()
 }
 
 /// Zone, entrance, credentials 5 and 6 with their factors.
 fn records() -> Vec<Record> {
-    vec![zone(), entrance(), credential(5), factor(5), credential(6), factor(6)]
+    vec![
+        zone(),
+        entrance(),
+        credential(5),
+        factor(5),
+        credential(6),
+        factor(6),
+    ]
 }
 
 fn fresh(site: &[u8]) -> Vec<u8> {
@@ -75,7 +100,10 @@ fn events(site: &[u8], state: &mut [u8], entries: &[EntryFields]) -> Vec<u16> {
 /// The state after credential 5's one use, with credential 6 disabled by hand.
 fn live_state(site: &[u8]) -> Vec<u8> {
     let mut state = fresh(site);
-    let entries = [read(100, POINT, 5), EntryFields::set_disable(110, 6, DISABLE_MANUAL)];
+    let entries = [
+        read(100, POINT, 5),
+        EntryFields::set_disable(110, 6, DISABLE_MANUAL),
+    ];
     assert_eq!(events(site, &mut state, &entries), [GRANTED, NO_EVENT]);
     state
 }
@@ -96,12 +124,19 @@ fn run_carry_state(test: &str, files: [&[u8]; 3]) -> (Output, PathBuf) {
     }
     let _ = fs::remove_file(&names[3]);
     let mut command = Command::new(env!("CARGO_BIN_EXE_carry_state"));
-    (command.args(&names).output().expect("the program starts"), names[3].clone())
+    (
+        command.args(&names).output().expect("the program starts"),
+        names[3].clone(),
+    )
 }
 
 fn carried(test: &str, old_site: &[u8], old_state: &[u8], new_site: &[u8]) -> Vec<u8> {
     let (output, written) = run_carry_state(test, [old_site, old_state, new_site]);
-    assert!(output.status.success(), "{}", String::from_utf8_lossy(&output.stderr));
+    assert!(
+        output.status.success(),
+        "{}",
+        String::from_utf8_lossy(&output.stderr)
+    );
     let state = fs::read(written).expect("the state is written");
     assert_eq!(check_state(new_site, &state), Ok(()));
     state
@@ -118,14 +153,25 @@ fn in_place_every_object_keeps_its_state() {
     let old_site = records().concat();
     let old_state = live_state(&old_site);
     let mut new_records = records();
-    new_records[0] = Zone { upper_limit: 2, flags: 1 << ZONE_FLAG_COUNTING, ..Zone::new(ZONE) }.record();
+    new_records[0] = Zone {
+        upper_limit: 2,
+        flags: 1 << ZONE_FLAG_COUNTING,
+        ..Zone::new(ZONE)
+    }
+    .record();
     new_records.extend([credential(7), factor(7)]);
     let new_site = new_records.concat();
     let mut state = [&old_state[..], &fresh(&new_site)[old_state.len()..]].concat();
     assert_eq!(check_state(&new_site, &state), Ok(()));
     assert_eq!(events(&new_site, &mut state, &both_cards()), BY_THEIR_OWN);
-    assert_eq!(events(&new_site, &mut state, &[read(220, POINT, 7)]), [GRANTED]);
-    assert_eq!(at(&state, place_of_zone(&new_site, ZONE))[..4], [0, 0, 0, 2]);
+    assert_eq!(
+        events(&new_site, &mut state, &[read(220, POINT, 7)]),
+        [GRANTED]
+    );
+    assert_eq!(
+        at(&state, place_of_zone(&new_site, ZONE))[..4],
+        [0, 0, 0, 2]
+    );
 }
 
 /// Two records change places, and the state does not: it is accepted, and each holds the state of the other.
@@ -139,32 +185,66 @@ fn a_record_that_moved_alone_holds_the_state_of_another() {
     let mut kept = old_state.clone();
     assert_eq!(check_state(&new_site, &kept), Ok(()));
     let [of_five, of_six] = BY_THEIR_OWN;
-    assert_eq!(events(&new_site, &mut kept, &both_cards()), [of_six, of_five]);
+    assert_eq!(
+        events(&new_site, &mut kept, &both_cards()),
+        [of_six, of_five]
+    );
     let mut moved_too = carried("moved", &old_site, &old_state, &new_site);
-    assert_eq!(events(&new_site, &mut moved_too, &both_cards()), BY_THEIR_OWN);
+    assert_eq!(
+        events(&new_site, &mut moved_too, &both_cards()),
+        BY_THEIR_OWN
+    );
 }
 
 /// The points of the larger site: one waits for credential 6, one has two of three failures.
 fn larger_site() -> Vec<u8> {
-    let waits = Point { factors_wanted: TWO_FACTORS, ..point(POINT_OF_TWO) };
-    let locks = Point { max_failed_attempts: 3, ..point(POINT_THAT_LOCKS) };
-    [records(), vec![waits.record(), locks.record()]].concat().concat()
+    let waits = Point {
+        factors_wanted: TWO_FACTORS,
+        ..point(POINT_OF_TWO)
+    };
+    let locks = Point {
+        max_failed_attempts: 3,
+        ..point(POINT_THAT_LOCKS)
+    };
+    [records(), vec![waits.record(), locks.record()]]
+        .concat()
+        .concat()
 }
 
 fn larger_state(site: &[u8]) -> Vec<u8> {
     let mut state = live_state(site);
-    let failures = [read(120, POINT_THAT_LOCKS, 9), read(121, POINT_THAT_LOCKS, 9)];
+    let failures = [
+        read(120, POINT_THAT_LOCKS, 9),
+        read(121, POINT_THAT_LOCKS, 9),
+    ];
     let entries = [&[read(115, POINT_OF_TWO, 6)], &failures[..]].concat();
-    let expected = [NO_EVENT, DENIED_UNKNOWN_CREDENTIAL, DENIED_UNKNOWN_CREDENTIAL];
+    let expected = [
+        NO_EVENT,
+        DENIED_UNKNOWN_CREDENTIAL,
+        DENIED_UNKNOWN_CREDENTIAL,
+    ];
     assert_eq!(events(site, &mut state, &entries), expected);
     state
 }
 
 /// The zone and credential 6 are gone, and one failure locks.
 fn smaller_site() -> Vec<u8> {
-    let waits = Point { factors_wanted: TWO_FACTORS, ..point(POINT_OF_TWO) };
-    let locks = Point { max_failed_attempts: 1, ..point(POINT_THAT_LOCKS) };
-    [factor(5), locks.record(), waits.record(), point(POINT).record(), credential(5)].concat()
+    let waits = Point {
+        factors_wanted: TWO_FACTORS,
+        ..point(POINT_OF_TWO)
+    };
+    let locks = Point {
+        max_failed_attempts: 1,
+        ..point(POINT_THAT_LOCKS)
+    };
+    [
+        factor(5),
+        locks.record(),
+        waits.record(),
+        point(POINT).record(),
+        credential(5),
+    ]
+    .concat()
 }
 
 #[test]
@@ -185,7 +265,10 @@ fn carried_over_what_is_gone_is_nobodys() {
     let mut failed = at(&old_state, place_of_point(&old_site, POINT_THAT_LOCKS)).to_vec();
     assert_eq!(failed[POINT_STATE_FAILURES], 2);
     failed[POINT_STATE_FAILURES] = 0;
-    assert_eq!(at(&state, place_of_point(&new_site, POINT_THAT_LOCKS)), failed);
+    assert_eq!(
+        at(&state, place_of_point(&new_site, POINT_THAT_LOCKS)),
+        failed
+    );
 }
 
 /// The second half of a journal gets the same answers on the shuffled site with its carried state.

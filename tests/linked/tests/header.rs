@@ -261,7 +261,11 @@ fn named_rows(document: &str) -> Vec<Vec<String>> {
     document
         .lines()
         .filter_map(|line| line.strip_prefix("| `"))
-        .map(|row| row.split(" |").map(|cell| cell.trim().replace(['`', ','], "")).collect())
+        .map(|row| {
+            row.split(" |")
+                .map(|cell| cell.trim().replace(['`', ','], ""))
+                .collect()
+        })
         .collect()
 }
 
@@ -274,7 +278,10 @@ fn formats() -> String {
 fn every_number_is_compared() {
     let compared: BTreeSet<&str> = numbers().into_iter().map(|(name, _)| name).collect();
     let defined = defined(&header());
-    assert_eq!(BTreeSet::from_iter(defined.keys().map(String::as_str)), compared);
+    assert_eq!(
+        BTreeSet::from_iter(defined.keys().map(String::as_str)),
+        compared
+    );
 }
 
 /// Both ways: a number that is missing on one side is noticed, and so is one that differs.
@@ -283,9 +290,18 @@ fn numbers_are_those_of_the_document() {
     let rows = named_rows(&formats());
     let documented: BTreeMap<String, u64> = rows
         .iter()
-        .map(|row| (row[0].clone(), row[1].parse().unwrap_or_else(|_| panic!("{row:?}"))))
+        .map(|row| {
+            (
+                row[0].clone(),
+                row[1].parse().unwrap_or_else(|_| panic!("{row:?}")),
+            )
+        })
         .collect();
-    assert_eq!(documented.len(), rows.len(), "a name stands twice in the document");
+    assert_eq!(
+        documented.len(),
+        rows.len(),
+        "a name stands twice in the document"
+    );
     assert_eq!(defined(&header()), documented);
 }
 
@@ -293,8 +309,10 @@ fn numbers_are_those_of_the_document() {
 #[test]
 fn the_worth_of_bits_is_documented() {
     let rows = named_rows(&formats());
-    let bits: Vec<&Vec<String>> =
-        rows.iter().filter(|row| row[0].contains("_FLAG_") || row[0].contains("_DAY_")).collect();
+    let bits: Vec<&Vec<String>> = rows
+        .iter()
+        .filter(|row| row[0].contains("_FLAG_") || row[0].contains("_DAY_"))
+        .collect();
     assert_eq!(bits.len(), flags().len());
     for row in bits {
         let bit: u32 = row[1].parse().expect("a bit");
@@ -307,8 +325,14 @@ fn the_worth_of_bits_is_documented() {
 fn every_event_is_explained() {
     let rows = named_rows(&formats());
     for (name, _) in events() {
-        let row = rows.iter().find(|row| row[0] == name).unwrap_or_else(|| panic!("{name}"));
-        assert!(row.len() >= 5 && !row[3].is_empty() && !row[4].is_empty(), "{row:?}");
+        let row = rows
+            .iter()
+            .find(|row| row[0] == name)
+            .unwrap_or_else(|| panic!("{name}"));
+        assert!(
+            row.len() >= 5 && !row[3].is_empty() && !row[4].is_empty(),
+            "{row:?}"
+        );
     }
 }
 

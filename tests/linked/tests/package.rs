@@ -34,8 +34,12 @@ fn makers_package(test: &str) -> (PathBuf, PathBuf) {
 
 fn cargo(command: &str, manifest: PathBuf, test: &str) -> Command {
     let mut cargo = Command::new(env!("CARGO"));
-    cargo.args([command, "--quiet", "--offline", "--manifest-path"]).arg(manifest);
-    cargo.arg("--target-dir").arg(library::scratch(test).join("target"));
+    cargo
+        .args([command, "--quiet", "--offline", "--manifest-path"])
+        .arg(manifest);
+    cargo
+        .arg("--target-dir")
+        .arg(library::scratch(test).join("target"));
     cargo
 }
 
@@ -44,7 +48,8 @@ fn a_package_of_the_makers_own_links_an_installed_library() {
     let test = "package_installed";
     let (package, installed) = makers_package(test);
     for file in ["libwarblehay.a", "warblehay.h"] {
-        fs::copy(library::directory().join(file), installed.join(file)).expect("the library is installed");
+        fs::copy(library::directory().join(file), installed.join(file))
+            .expect("the library is installed");
     }
     let mut run = cargo("run", package.join("Cargo.toml"), test);
     run.env("WARBLEHAY_LIB_DIR", installed).arg("--");
@@ -57,16 +62,26 @@ fn a_missing_library_says_what_to_run() {
     let test = "package_missing";
     let (package, installed) = makers_package(test);
     let mut build = cargo("build", package.join("Cargo.toml"), test);
-    let output = build.env("WARBLEHAY_LIB_DIR", installed).output().expect("cargo starts");
+    let output = build
+        .env("WARBLEHAY_LIB_DIR", installed)
+        .output()
+        .expect("cargo starts");
     let message = String::from_utf8_lossy(&output.stderr).into_owned();
     assert!(!output.status.success());
-    assert!(message.contains("bash library/build") && message.contains("WARBLEHAY_LIB_DIR"), "{message}");
+    assert!(
+        message.contains("bash library/build") && message.contains("WARBLEHAY_LIB_DIR"),
+        "{message}"
+    );
 }
 
 /// The examples in the package's documentation.
 #[test]
 fn the_documentation_runs() {
-    let mut test = cargo("test", library::repository("library/rust/Cargo.toml"), "package_documentation");
+    let mut test = cargo(
+        "test",
+        library::repository("library/rust/Cargo.toml"),
+        "package_documentation",
+    );
     let printed = library::assert_succeeds(test.arg("--doc"));
     assert!(printed.contains("1 passed; 0 failed"), "{printed}");
 }
@@ -74,17 +89,24 @@ fn the_documentation_runs() {
 /// Every number that a call of the header returns is a case of the enum, under its own name.
 #[test]
 fn every_outcome_is_a_case() {
-    let numbers: Vec<u32> = TurnedBack::ALL.into_iter().map(TurnedBack::number).collect();
+    let numbers: Vec<u32> = TurnedBack::ALL
+        .into_iter()
+        .map(TurnedBack::number)
+        .collect();
     assert_eq!(numbers, [1, 2, 3, 4, 5, 6, 10, 11]);
     for outcome in TurnedBack::ALL {
         let words = outcome.to_string();
-        assert!(words.starts_with(&format!("turned back with {}: ", outcome.number())), "{words}");
+        assert!(
+            words.starts_with(&format!("turned back with {}: ", outcome.number())),
+            "{words}"
+        );
     }
 }
 
 #[test]
 fn lookups_find_the_first_record_or_nothing() {
-    let site = fs::read(library::repository("crates/print_journal/data/site")).expect("the example is there");
+    let site = fs::read(library::repository("crates/print_journal/data/site"))
+        .expect("the example is there");
     assert_eq!(place_of_zone(&site, 23), Some(0));
     assert_eq!(place_of_point(&site, 2), Some(1));
     assert_eq!(place_of_credential(&site, 5), Some(2));
