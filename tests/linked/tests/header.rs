@@ -82,6 +82,14 @@ fn fields() -> Vec<(&'static str, u64)> {
         ("LARGEST_THREAT", MOST_THREAT_LEVEL),
         ("FORMAT_UNDEFINED", format::UNDEFINED),
         ("FORMAT_ERROR", format::ERROR),
+    ])
+    .into_iter()
+    .map(|(name, number)| (name, number.into()))
+    .collect()
+}
+
+fn operations_and_marks() -> Vec<(&'static str, u64)> {
+    Vec::from([
         ("OPERATION_FACTOR", operation::READ_FACTOR),
         ("OPERATION_SET_COUNT", operation::SET_COUNT),
         ("OPERATION_ADJUST_COUNT", operation::ADJUST_COUNT),
@@ -236,7 +244,16 @@ fn events() -> Vec<(&'static str, u64)> {
 fn numbers() -> Vec<(&'static str, u64)> {
     let offsets = [site_offsets(), other_offsets()].concat();
     let offsets = offsets.into_iter().map(|(name, offset)| (name, offset as u64)).collect();
-    [outcomes(), sizes_and_times(), fields(), offsets, flags(), events()].concat()
+    [
+        outcomes(),
+        sizes_and_times(),
+        fields(),
+        operations_and_marks(),
+        offsets,
+        flags(),
+        events(),
+    ]
+    .concat()
 }
 
 fn header() -> String {
