@@ -10,6 +10,7 @@ use std::process::{Command, Output};
 use warblehay::numbers::*;
 use warblehay::{
     check_state, fresh_state, place_of_credential, place_of_point, place_of_zone, run_journal,
+    TurnedBack,
 };
 
 const ZONE: u32 = 1;
@@ -172,6 +173,31 @@ fn in_place_every_object_keeps_its_state() {
         at(&state, place_of_zone(&new_site, ZONE))[..4],
         [0, 0, 0, 2]
     );
+}
+
+/// Uses, days and disable are the state's: the site's show in a fresh record alone.
+#[test]
+fn in_place_the_sites_uses_and_disable_change_nothing() {
+    let old_site = records().concat();
+    let mut state = live_state(&old_site);
+    let mut new_records = records();
+    new_records[2] = Credential::new(5).record();
+    let new_site = new_records.concat();
+    assert_ne!(fresh(&new_site), fresh(&old_site));
+    assert_eq!(events(&new_site, &mut state, &both_cards()), BY_THEIR_OWN);
+}
+
+/// A most that is lowered to the failures turns the state back until they are 0.
+#[test]
+fn in_place_a_lowered_most_asks_for_no_failures() {
+    let site = larger_site();
+    let mut state = larger_state(&site);
+    let place = place_of_point(&site, POINT_THAT_LOCKS).expect("the point is there");
+    let mut new_site = site.clone();
+    new_site[place * RECORD_SIZE + POINT_MOST_FAILURES] = 2;
+    assert_eq!(check_state(&new_site, &state), Err(TurnedBack::StateForm));
+    state[place * RECORD_SIZE + POINT_STATE_FAILURES] = 0;
+    assert_eq!(check_state(&new_site, &state), Ok(()));
 }
 
 /// Two records change places, and the state does not: it is accepted, and each holds the state of the other.
