@@ -9,22 +9,33 @@ use std::{env, fs};
 const LIB_DIR: &str = "WARBLEHAY_LIB_DIR";
 
 fn main() {
-    let directory = env::var_os(LIB_DIR).map_or_else(repository_directory, PathBuf::from);
+    let target = env::var("CARGO_CFG_TARGET_ARCH").expect("cargo sets it for build scripts");
+    if target != "x86_64" {
+        fail(&format!("the library is for x86_64, not for {target}"));
+    }
     println!("cargo:rerun-if-env-changed={LIB_DIR}");
+    let directory = env::var_os(LIB_DIR).map_or_else(repository_directory, PathBuf::from);
+    if directory.is_relative() {
+        fail(&format!("{LIB_DIR} is to be an absolute path"));
+    }
     let [archive, header] = ["libwarblehay.a", "warblehay.h"].map(|name| directory.join(name));
     for file in [&archive, &header] {
         println!("cargo:rerun-if-changed={}", file.display());
-        if !file.is_file() {
-            fail(&format!(
-                "{} is missing: run `bash library/build` in Warblehay's repository, or set {LIB_DIR} \
-                 to the directory, as an absolute path, that libwarblehay.a and warblehay.h were installed in",
-                file.display()
-            ));
-        }
+        require(file);
     }
     write_numbers(&header);
     println!("cargo:rustc-link-search=native={}", directory.display());
     println!("cargo:rustc-link-lib=static=warblehay");
+}
+
+fn require(file: &Path) {
+    if !file.is_file() {
+        fail(&format!(
+            "{} is missing: run `bash library/build` in Warblehay's repository, or set {LIB_DIR} to \
+             the directory that libwarblehay.a and warblehay.h were installed in",
+            file.display()
+        ));
+    }
 }
 
 fn repository_directory() -> PathBuf {

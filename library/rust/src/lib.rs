@@ -2,7 +2,8 @@
 //!
 //! The calls are those of the C library: each is proved to return and write what document 01 says,
 //! whatever bytes it is handed, and to end. This package only lends them slices, and is not proved.
-//! One that is turned back has changed no slice. Nothing is allocated or kept between calls.
+//! One that is turned back has changed no slice. Nothing is allocated or kept between calls, and
+//! a call uses less than 8 KiB of stack.
 //!
 //! `docs/FORMATS.md` of the repository has the layouts and says of each of the [`numbers`] when it
 //! is given.

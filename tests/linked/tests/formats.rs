@@ -1,91 +1,13 @@
 //! The tables of docs/FORMATS.md hold of the proved library: every byte outside the fields is
 //! spare, every range ends where the table says, and the fresh state is as it stands there.
 
+mod document;
 mod library;
 
+use document::{fields, put, rows, Row};
 use reference::build::{Credential, EntryFields, Factor, Point, Record, Rule, Zone, FORMAT};
-use std::fs;
-use std::ops::Range;
 use warblehay::numbers::*;
 use warblehay::{check_site, check_state, fresh_state, run_journal, TurnedBack};
-
-/// A row of a table, by the titles of its columns.
-struct Row(Vec<(String, String)>);
-
-impl Row {
-    fn cell(&self, title: &str) -> Option<&str> {
-        let (_, cell) = self.0.iter().find(|(column, _)| column == title)?;
-        Some(cell)
-    }
-
-    fn name(&self) -> &str {
-        self.cell("Name").expect("a name")
-    }
-
-    fn number(&self, title: &str) -> usize {
-        self.cell(title)
-            .and_then(|cell| cell.parse().ok())
-            .unwrap_or_else(|| panic!("{title} of {}", self.name()))
-    }
-
-    fn range(&self) -> &str {
-        self.cell("Range").expect("a range")
-    }
-
-    fn bytes(&self) -> Range<usize> {
-        let offset = self.number("Offset");
-        offset..offset + self.number("Length")
-    }
-
-    /// The largest number that the field can hold.
-    fn most(&self) -> u64 {
-        u64::MAX >> (64 - 8 * self.number("Length"))
-    }
-}
-
-fn cells(line: &str) -> Option<Vec<String>> {
-    let cells = line.strip_prefix("| ")?.strip_suffix('|')?;
-    Some(
-        cells
-            .split('|')
-            .map(|cell| cell.trim().replace(['`', ','], ""))
-            .collect(),
-    )
-}
-
-/// The rows of all tables that have a column of this title.
-fn rows(title: &str) -> Vec<Row> {
-    let document =
-        fs::read_to_string(library::repository("docs/FORMATS.md")).expect("the document is there");
-    let mut titles: Option<Vec<String>> = None;
-    let mut rows = Vec::new();
-    for line in document.lines() {
-        match (cells(line), &titles) {
-            (Some(cells), Some(titles)) => {
-                rows.push(Row(titles.iter().cloned().zip(cells).collect()))
-            }
-            (Some(cells), None) => titles = Some(cells),
-            (None, _) if line.starts_with("|--") => {}
-            (None, _) => titles = None,
-        }
-    }
-    rows.retain(|row| row.cell(title).is_some());
-    rows
-}
-
-/// The rows whose names start so.
-fn fields(start: &str) -> Vec<Row> {
-    let mut rows = rows("Offset");
-    rows.retain(|row| row.name().starts_with(start));
-    assert!(!rows.is_empty(), "{start}");
-    rows
-}
-
-fn put(bytes: &mut [u8], field: Range<usize>, number: u64) {
-    let digits = number.to_be_bytes();
-    let length = field.len();
-    bytes[field].copy_from_slice(&digits[digits.len() - length..]);
-}
 
 /// The numbers at the ends of a range and beyond, each with whether it is in it.
 fn ends(lowest: u64, highest: u64, most: u64) -> Vec<(u64, bool)> {
@@ -161,17 +83,24 @@ fn site_fields(kind: &str) -> Vec<Row> {
     rows
 }
 
-/// The bytes of a record that no field has.
+/// The bytes that no field has.
 fn spare(fields: &[Row], length: usize) -> Vec<usize> {
     (0..length)
         .filter(|byte| !fields.iter().any(|row| row.bytes().contains(byte)))
         .collect()
 }
 
+/// The same, of which there are some.
+fn some_spare(fields: &[Row], length: usize) -> Vec<usize> {
+    let spare = spare(fields, length);
+    assert!(!spare.is_empty());
+    spare
+}
+
 #[test]
 fn site_bytes_without_a_field_are_spare() {
     for (place, kind) in KINDS.into_iter().enumerate() {
-        for byte in spare(&site_fields(kind), RECORD_SIZE) {
+        for byte in some_spare(&site_fields(kind), RECORD_SIZE) {
             assert!(
                 !is_site_in_range(place, |record| record[byte] = 1),
                 "{kind} {byte}"
@@ -281,7 +210,7 @@ fn state_tries(row: &Row) -> Vec<(u64, bool)> {
 #[test]
 fn state_bytes_without_a_field_are_spare() {
     for (place, kind) in KINDS.into_iter().enumerate() {
-        for byte in spare(&state_fields(kind), RECORD_SIZE) {
+        for byte in some_spare(&state_fields(kind), RECORD_SIZE) {
             assert!(
                 !is_well_formed(place, |record| record[byte] = 1),
                 "{kind} {byte}"
@@ -385,7 +314,7 @@ fn operations_use_the_columns_of_their_table() {
 #[test]
 fn entries_have_their_ranges() {
     for entry in entries() {
-        for byte in spare(&fields("ENTRY_"), ENTRY_SIZE) {
+        for byte in some_spare(&fields("ENTRY_"), ENTRY_SIZE) {
             assert!(!is_in_form(entry, |bytes| bytes[byte] = 1), "{byte}");
         }
         for row in ["ENTRY_TIME", "ENTRY_INSTANCE"]

@@ -1,8 +1,10 @@
 //! The numbers of the header, as the C compiler reads them, are those of the second implementation
 //! and those of docs/FORMATS.md.
 
+mod document;
 mod library;
 
+use document::{row_of, rows};
 use reference::layout;
 use reference::numbers::*;
 use std::collections::{BTreeMap, BTreeSet};
@@ -273,23 +275,6 @@ fn defined(header: &str) -> BTreeMap<String, u64> {
         .collect()
 }
 
-/// The cells of each row of a table whose first cell is a name.
-fn named_rows(document: &str) -> Vec<Vec<String>> {
-    document
-        .lines()
-        .filter_map(|line| line.strip_prefix("| `"))
-        .map(|row| {
-            row.split(" |")
-                .map(|cell| cell.trim().replace(['`', ','], ""))
-                .collect()
-        })
-        .collect()
-}
-
-fn formats() -> String {
-    fs::read_to_string(library::repository("docs/FORMATS.md")).expect("the document is there")
-}
-
 /// A number that is new in the header is to be compared too.
 #[test]
 fn every_number_is_compared() {
@@ -304,52 +289,39 @@ fn every_number_is_compared() {
 /// Both ways: a number that is missing on one side is noticed, and so is one that differs.
 #[test]
 fn numbers_are_those_of_the_document() {
-    let rows = named_rows(&formats());
+    let rows = rows("Name");
     let documented: BTreeMap<String, u64> = rows
         .iter()
-        .map(|row| {
-            (
-                row[0].clone(),
-                row[1].parse().unwrap_or_else(|_| panic!("{row:?}")),
-            )
-        })
+        .map(|row| (row.name().to_string(), row.value()))
         .collect();
-    assert_eq!(
-        documented.len(),
-        rows.len(),
-        "a name stands twice in the document"
-    );
+    assert_eq!(documented.len(), rows.len(), "a name stands twice");
     assert_eq!(defined(&header()), documented);
 }
 
 /// A bit's worth is beside it.
 #[test]
 fn the_worth_of_bits_is_documented() {
-    let rows = named_rows(&formats());
-    let bits: Vec<&Vec<String>> = rows
-        .iter()
-        .filter(|row| row[0].contains("_FLAG_") || row[0].contains("_DAY_"))
-        .collect();
+    let bits = rows("Bit");
     assert_eq!(bits.len(), flags().len());
     for row in bits {
-        let bit: u32 = row[1].parse().expect("a bit");
-        assert_eq!(row[2].parse(), Ok(1 << bit), "{row:?}");
+        assert_eq!(row.number("Worth"), 1 << row.number("Bit"), "{}", row.name());
     }
 }
 
-/// Every event of the header has a row that says when it is given and what to look at.
+/// Every event, refusal, mark and number that a call returns has its sentence, and all but marks say what to look at.
 #[test]
-fn every_event_is_explained() {
-    let rows = named_rows(&formats());
-    for (name, _) in events() {
-        let row = rows
-            .iter()
-            .find(|row| row[0] == name)
-            .unwrap_or_else(|| panic!("{name}"));
-        assert!(
-            row.len() >= 5 && !row[3].is_empty() && !row[4].is_empty(),
-            "{row:?}"
-        );
+fn every_answer_is_explained() {
+    let mut names: Vec<&str> = [outcomes(), events()].concat().into_iter().map(|(name, _)| name).collect();
+    names.push("NOT_REFUSED");
+    for name in names {
+        let row = row_of(name);
+        for title in ["When", "What to look at"] {
+            assert!(row.cell(title).is_some_and(|cell| !cell.is_empty()), "{title} of {name}");
+        }
+    }
+    let marks = operations_and_marks();
+    for (name, _) in marks.into_iter().filter(|(name, _)| name.starts_with("MARK_")) {
+        assert!(row_of(name).cell("When").is_some_and(|cell| !cell.is_empty()), "{name}");
     }
 }
 

@@ -3,7 +3,7 @@
 mod library;
 
 use std::fs;
-use std::path::PathBuf;
+use std::path::{Path, PathBuf};
 use std::process::Command;
 use warblehay::numbers::*;
 use warblehay::{place_of_credential, place_of_point, place_of_zone, TurnedBack};
@@ -57,21 +57,30 @@ fn a_package_of_the_makers_own_links_an_installed_library() {
     assert_eq!(library::assert_succeeds(&mut run), "Ok(()) Some(128)\n");
 }
 
+/// What cargo says where the maker's package cannot be built.
+fn build_failure(test: &str, lib_dir: &Path) -> String {
+    let (package, _) = makers_package(test);
+    let mut build = cargo("build", package.join("Cargo.toml"), test);
+    let output = build
+        .env("WARBLEHAY_LIB_DIR", lib_dir)
+        .output()
+        .expect("cargo starts");
+    assert!(!output.status.success());
+    String::from_utf8_lossy(&output.stderr).into_owned()
+}
+
 #[test]
 fn a_missing_library_says_what_to_run() {
     let test = "package_missing";
-    let (package, installed) = makers_package(test);
-    let mut build = cargo("build", package.join("Cargo.toml"), test);
-    let output = build
-        .env("WARBLEHAY_LIB_DIR", installed)
-        .output()
-        .expect("cargo starts");
-    let message = String::from_utf8_lossy(&output.stderr).into_owned();
-    assert!(!output.status.success());
-    assert!(
-        message.contains("bash library/build") && message.contains("WARBLEHAY_LIB_DIR"),
-        "{message}"
-    );
+    let message = build_failure(test, &library::scratch(test));
+    assert!(message.contains("run `bash library/build`"), "{message}");
+    assert!(message.contains("set WARBLEHAY_LIB_DIR"), "{message}");
+}
+
+#[test]
+fn a_relative_directory_is_refused() {
+    let message = build_failure("package_relative", Path::new("target/library"));
+    assert!(message.contains("is to be an absolute path"), "{message}");
 }
 
 /// The examples in the package's documentation.
