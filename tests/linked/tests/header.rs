@@ -304,24 +304,44 @@ fn the_worth_of_bits_is_documented() {
     let bits = rows("Bit");
     assert_eq!(bits.len(), flags().len());
     for row in bits {
-        assert_eq!(row.number("Worth"), 1 << row.number("Bit"), "{}", row.name());
+        assert_eq!(
+            row.number("Worth"),
+            1 << row.number("Bit"),
+            "{}",
+            row.name()
+        );
     }
 }
 
 /// Every event, refusal, mark and number that a call returns has its sentence, and all but marks say what to look at.
 #[test]
 fn every_answer_is_explained() {
-    let mut names: Vec<&str> = [outcomes(), events()].concat().into_iter().map(|(name, _)| name).collect();
+    let mut names: Vec<&str> = [outcomes(), events()]
+        .concat()
+        .into_iter()
+        .map(|(name, _)| name)
+        .collect();
     names.push("NOT_REFUSED");
     for name in names {
         let row = row_of(name);
         for title in ["When", "What to look at"] {
-            assert!(row.cell(title).is_some_and(|cell| !cell.is_empty()), "{title} of {name}");
+            assert!(
+                row.cell(title).is_some_and(|cell| !cell.is_empty()),
+                "{title} of {name}"
+            );
         }
     }
     let marks = operations_and_marks();
-    for (name, _) in marks.into_iter().filter(|(name, _)| name.starts_with("MARK_")) {
-        assert!(row_of(name).cell("When").is_some_and(|cell| !cell.is_empty()), "{name}");
+    for (name, _) in marks
+        .into_iter()
+        .filter(|(name, _)| name.starts_with("MARK_"))
+    {
+        assert!(
+            row_of(name)
+                .cell("When")
+                .is_some_and(|cell| !cell.is_empty()),
+            "{name}"
+        );
     }
 }
 
