@@ -95,7 +95,7 @@ fn the_documentation_runs() {
     assert!(printed.contains("1 passed; 0 failed"), "{printed}");
 }
 
-/// Every number that a call of the header returns is a case of the enum, under its own name.
+/// Every number that a call returns but 0 is a case of the enum.
 #[test]
 fn every_outcome_is_a_case() {
     let numbers: Vec<u32> = TurnedBack::ALL
