@@ -89,6 +89,21 @@ pub const RULE_SPARE: usize = 16;
 
 pub const RULE_SPARE_SIZE: usize = 16;
 
+// A rule's days: each is a bit, bit 0 the lowest.
+pub const RULE_DAY_MONDAY: u8 = 0;
+
+pub const RULE_DAY_TUESDAY: u8 = 1;
+
+pub const RULE_DAY_WEDNESDAY: u8 = 2;
+
+pub const RULE_DAY_THURSDAY: u8 = 3;
+
+pub const RULE_DAY_FRIDAY: u8 = 4;
+
+pub const RULE_DAY_SATURDAY: u8 = 5;
+
+pub const RULE_DAY_SUNDAY: u8 = 6;
+
 // A credential's site record.
 pub const CREDENTIAL_FLAG_MASTER: u8 = 0;
 

@@ -1,4 +1,4 @@
-// The numbers of document 01 that the engine uses, by the names that BACnet (source 002) gives them. The definitions' are in specs/Numbers.antt.
+// The numbers of document 01, by the names that BACnet (source 002) gives them; the engine uses most of them. The definitions' are in specs/Numbers.antt.
 
 // No instance; a time that never was, or the end of time; no limit of uses, days or absentee days.
 pub const NONE: u32 = 4194303;
@@ -18,20 +18,22 @@ pub const ANSWER_SIZE: usize = 16;
 
 pub const LARGEST_JOURNAL: usize = 65520;
 
-// The largest count, and one above the largest number of four bytes, by which tags turn over.
+// The largest count.
 pub const LARGEST_COUNT: u32 = 4294967295;
 
+// One above the largest number of four bytes, by which tags turn over.
 pub const MODULUS: u64 = 4294967296;
 
 pub const SECONDS_OF_MINUTE: u32 = 60;
 
+// The end of a day: the largest minute of a rule.
 pub const MINUTES_OF_DAY: u32 = 1440;
 
 pub const SECONDS_OF_DAY: u32 = 86400;
 
 pub const DAYS_OF_WEEK: u32 = 7;
 
-// Kinds of records; a rule's location kinds are those of zone and point.
+// Kinds of records.
 pub const ACCESS_ZONE: u8 = 1;
 
 pub const ACCESS_POINT: u8 = 2;
@@ -42,6 +44,13 @@ pub const ACCESS_CREDENTIAL: u8 = 4;
 
 pub const AUTHENTICATION_FACTOR: u8 = 5;
 
+// Kinds of a rule's location: those of zone and point, and that of a rule for everywhere.
+pub const LOCATION_EVERYWHERE: u8 = 0;
+
+pub const LOCATION_ZONE: u8 = 1;
+
+pub const LOCATION_POINT: u8 = 2;
+
 // Roles of factors.
 pub const ROLE_IDENTIFYING: u8 = 1;
 
@@ -50,21 +59,31 @@ pub const ROLE_CONFIRMING: u8 = 2;
 // Fields of records and entries.
 pub const LARGEST_THREAT: u8 = 100;
 
+pub const PASSBACK_OFF: u8 = 0;
+
 pub const PASSBACK_HARD: u8 = 1;
 
 pub const PASSBACK_SOFT: u8 = 2;
 
 pub const MODE_AUTHORIZE: u8 = 0;
 
+pub const MODE_GRANT_ACTIVE: u8 = 1;
+
 pub const MODE_DENY_ALL: u8 = 2;
 
+pub const ONE_FACTOR: u8 = 1;
+
 pub const TWO_FACTORS: u8 = 2;
+
+pub const DISABLE_NONE: u8 = 0;
 
 pub const DISABLE_DISABLED: u8 = 1;
 
 pub const DISABLE_MANUAL: u8 = 2;
 
 pub const DISABLE_LOCKOUT: u8 = 3;
+
+pub const FACTOR_DISABLE_NONE: u8 = 0;
 
 pub const FACTOR_DISABLED: u8 = 1;
 
@@ -179,6 +198,8 @@ pub const OPERATION_SET_SERVICE: u8 = 5;
 pub const FORMAT_UNDEFINED: u8 = 0;
 
 pub const LARGEST_DISABLE: u8 = 3;
+
+pub const ARGUMENT_UNLOCK: u8 = 0;
 
 pub const ARGUMENT_LOCK: u8 = 1;
 

@@ -1,65 +1,25 @@
-//! The calls of the library for a panel maker who writes Rust. Each returns the number of document
-//! 01, 0 for worked through; the header of the library has the promises.
+//! The calls of the package `warblehay` with the numbers of document 01, 0 for worked through, as
+//! the second implementation has them.
 
-#![allow(unsafe_code)]
-
-// A slice passes as a pointer and then a length.
-extern "C" {
-    fn warblehay_check_site(site: *const u8, site_length: usize) -> u32;
-
-    fn warblehay_fresh_state(
-        site: *const u8,
-        site_length: usize,
-        state: *mut u8,
-        state_length: usize,
-    ) -> u32;
-
-    fn warblehay_check_state(
-        site: *const u8,
-        site_length: usize,
-        state: *const u8,
-        state_length: usize,
-    ) -> u32;
-
-    fn warblehay_run_journal(
-        site: *const u8,
-        site_length: usize,
-        state: *mut u8,
-        state_length: usize,
-        journal: *const u8,
-        journal_length: usize,
-        answers: *mut u8,
-        answers_length: usize,
-    ) -> u32;
-}
+use warblehay::numbers::WORKED_THROUGH;
+use warblehay::TurnedBack;
 
 pub fn check_site(site: &[u8]) -> u32 {
-    // SAFETY: the call asks for nothing but a live slice.
-    unsafe { warblehay_check_site(site.as_ptr(), site.len()) }
+    number(warblehay::check_site(site))
 }
 
 pub fn fresh_state(site: &[u8], state: &mut [u8]) -> u32 {
-    // SAFETY: the call asks for nothing but live slices, the lent one apart from the other.
-    unsafe { warblehay_fresh_state(site.as_ptr(), site.len(), state.as_mut_ptr(), state.len()) }
+    number(warblehay::fresh_state(site, state))
 }
 
 pub fn check_state(site: &[u8], state: &[u8]) -> u32 {
-    // SAFETY: the call asks for nothing but live slices.
-    unsafe { warblehay_check_state(site.as_ptr(), site.len(), state.as_ptr(), state.len()) }
+    number(warblehay::check_state(site, state))
 }
 
 pub fn run_journal(site: &[u8], state: &mut [u8], journal: &[u8], answers: &mut [u8]) -> u32 {
-    // SAFETY: the call asks for nothing but live slices, the lent ones apart from all others.
-    unsafe {
-        warblehay_run_journal(
-            site.as_ptr(),
-            site.len(),
-            state.as_mut_ptr(),
-            state.len(),
-            journal.as_ptr(),
-            journal.len(),
-            answers.as_mut_ptr(),
-            answers.len(),
-        )
-    }
+    number(warblehay::run_journal(site, state, journal, answers))
+}
+
+fn number(outcome: Result<(), TurnedBack>) -> u32 {
+    outcome.map_or_else(TurnedBack::number, |()| WORKED_THROUGH)
 }

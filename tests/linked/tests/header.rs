@@ -1,10 +1,13 @@
-//! The numbers of the header, as the C compiler reads them, are those of the second implementation.
+//! The numbers of the header, as the C compiler reads them, are those of the second implementation
+//! and those of docs/FORMATS.md.
 
+mod document;
 mod library;
 
+use document::{row_of, rows};
 use reference::layout;
 use reference::numbers::*;
-use std::collections::BTreeSet;
+use std::collections::{BTreeMap, BTreeSet};
 use std::fs;
 
 const PREFIX: &str = "WARBLEHAY_";
@@ -42,13 +45,8 @@ fn sizes_and_times() -> Vec<(&'static str, u64)> {
         ("ANSWER_SIZE", ANSWER_LENGTH as u64),
         ("LARGEST_SITE", MOST_SITE_BYTES as u64),
         ("LARGEST_JOURNAL", MOST_JOURNAL_BYTES as u64),
-        ("SECONDS_OF_MINUTE", SECONDS_PER_MINUTE.into()),
         ("MINUTES_OF_DAY", MINUTES_PER_DAY.into()),
-        ("SECONDS_OF_DAY", SECONDS_PER_DAY.into()),
-        ("DAYS_OF_WEEK", DAYS_PER_WEEK.into()),
-        // The reference has no name for these; they are what Rust says of its numbers.
-        ("MODULUS", u64::from(u32::MAX) + 1),
-        ("FIRST_NEGATIVE", u64::from(i32::MIN as u32)),
+        // The reference has no name for it.
         ("NOWHERE", u64::MAX),
     ])
 }
@@ -60,17 +58,24 @@ fn fields() -> Vec<(&'static str, u64)> {
         ("ACCESS_RULE", kind::RULE),
         ("ACCESS_CREDENTIAL", kind::CREDENTIAL),
         ("AUTHENTICATION_FACTOR", kind::FACTOR),
+        ("LOCATION_EVERYWHERE", location_kind::UNSPECIFIED),
+        ("LOCATION_ZONE", location_kind::ZONE),
+        ("LOCATION_POINT", location_kind::POINT),
         ("ROLE_IDENTIFYING", factor_role::IDENTIFYING),
         ("ROLE_CONFIRMING", factor_role::CONFIRMING),
+        ("PASSBACK_OFF", passback_mode::PASSBACK_OFF),
         ("PASSBACK_HARD", passback_mode::HARD_PASSBACK),
         ("PASSBACK_SOFT", passback_mode::SOFT_PASSBACK),
         ("MODE_AUTHORIZE", authorization_mode::AUTHORIZE),
+        ("MODE_GRANT_ACTIVE", authorization_mode::GRANT_ACTIVE),
         ("MODE_DENY_ALL", authorization_mode::DENY_ALL),
+        ("ONE_FACTOR", factors_wanted::ONE),
         ("TWO_FACTORS", factors_wanted::TWO),
+        ("DISABLE_NONE", credential_disable::NONE),
         ("DISABLE_DISABLED", credential_disable::DISABLE),
         ("DISABLE_MANUAL", credential_disable::DISABLE_MANUAL),
         ("DISABLE_LOCKOUT", credential_disable::DISABLE_LOCKOUT),
-        ("LARGEST_DISABLE", credential_disable::DISABLE_LOCKOUT),
+        ("FACTOR_DISABLE_NONE", factor_disable::NONE),
         ("FACTOR_DISABLED", factor_disable::DISABLED),
         ("FACTOR_LOST", factor_disable::DISABLED_LOST),
         ("FACTOR_STOLEN", factor_disable::DISABLED_STOLEN),
@@ -79,12 +84,21 @@ fn fields() -> Vec<(&'static str, u64)> {
         ("LARGEST_THREAT", MOST_THREAT_LEVEL),
         ("FORMAT_UNDEFINED", format::UNDEFINED),
         ("FORMAT_ERROR", format::ERROR),
+    ])
+    .into_iter()
+    .map(|(name, number)| (name, number.into()))
+    .collect()
+}
+
+fn operations_and_marks() -> Vec<(&'static str, u64)> {
+    Vec::from([
         ("OPERATION_FACTOR", operation::READ_FACTOR),
         ("OPERATION_SET_COUNT", operation::SET_COUNT),
         ("OPERATION_ADJUST_COUNT", operation::ADJUST_COUNT),
         ("OPERATION_SET_DISABLE", operation::SET_DISABLE),
         ("OPERATION_SET_SERVICE", operation::SET_LOCKOUT),
         // The reference reads this argument as a flag.
+        ("ARGUMENT_UNLOCK", false.into()),
         ("ARGUMENT_LOCK", true.into()),
         ("NOT_REFUSED", refusal::ACCEPTED),
         ("MARK_FACTOR_READ", mark::AUTHENTICATION_FACTOR_READ),
@@ -192,6 +206,14 @@ fn flags() -> Vec<(&'static str, u64)> {
         ("CREDENTIAL_FLAG_OCCUPANCY_EXEMPT", credential_flag::OCCUPANCY_EXEMPTION),
         ("CREDENTIAL_FLAG_TRACE", credential_flag::TRACE_FLAG),
         ("CREDENTIAL_FLAG_EXTENDED_TIME", credential_flag::EXTENDED_TIME_ENABLE),
+        // The reference has no names for the days; they are the bits of a rule's days, in order.
+        ("RULE_DAY_MONDAY", 1),
+        ("RULE_DAY_TUESDAY", 2),
+        ("RULE_DAY_WEDNESDAY", 4),
+        ("RULE_DAY_THURSDAY", 8),
+        ("RULE_DAY_FRIDAY", 16),
+        ("RULE_DAY_SATURDAY", 32),
+        ("RULE_DAY_SUNDAY", 64),
     ])
     .into_iter()
     .map(|(name, worth): (_, u8)| (name, worth.trailing_zeros().into()))
@@ -224,28 +246,103 @@ fn events() -> Vec<(&'static str, u64)> {
 fn numbers() -> Vec<(&'static str, u64)> {
     let offsets = [site_offsets(), other_offsets()].concat();
     let offsets = offsets.into_iter().map(|(name, offset)| (name, offset as u64)).collect();
-    [outcomes(), sizes_and_times(), fields(), offsets, flags(), events()].concat()
+    [
+        outcomes(),
+        sizes_and_times(),
+        fields(),
+        operations_and_marks(),
+        offsets,
+        flags(),
+        events(),
+    ]
+    .concat()
 }
 
 fn header() -> String {
     fs::read_to_string(library::directory().join("warblehay.h")).expect("the header is there")
 }
 
-/// The names that the header defines, without their prefix. Its guard is no number.
-fn defined(header: &str) -> BTreeSet<&str> {
+/// The numbers that the header defines, by name without the prefix. Its guard is no number.
+fn defined(header: &str) -> BTreeMap<String, u64> {
     header
         .lines()
-        .filter_map(|line| line.strip_prefix("#define "))
-        .map(|definition| definition.strip_prefix(PREFIX).expect("the prefix"))
-        .filter_map(|definition| Some(definition.split_once(' ')?.0))
+        .filter_map(|line| line.strip_prefix("#define ")?.split_once(' '))
+        .map(|(name, literal)| {
+            let name = name.strip_prefix(PREFIX).expect("the prefix");
+            let digits = literal.split(['(', ')']).nth(1).expect("a literal");
+            (name.to_string(), digits.parse().expect("a number"))
+        })
         .collect()
 }
 
 /// A number that is new in the header is to be compared too.
 #[test]
 fn every_number_is_compared() {
-    let compared = numbers().into_iter().map(|(name, _)| name).collect();
-    assert_eq!(defined(&header()), compared);
+    let compared: BTreeSet<&str> = numbers().into_iter().map(|(name, _)| name).collect();
+    let defined = defined(&header());
+    assert_eq!(
+        BTreeSet::from_iter(defined.keys().map(String::as_str)),
+        compared
+    );
+}
+
+/// Both ways: a number that is missing on one side is noticed, and so is one that differs.
+#[test]
+fn numbers_are_those_of_the_document() {
+    let rows = rows("Name");
+    let documented: BTreeMap<String, u64> = rows
+        .iter()
+        .map(|row| (row.name().to_string(), row.value()))
+        .collect();
+    assert_eq!(documented.len(), rows.len(), "a name stands twice");
+    assert_eq!(defined(&header()), documented);
+}
+
+/// A bit's worth is beside it.
+#[test]
+fn the_worth_of_bits_is_documented() {
+    let bits = rows("Bit");
+    assert_eq!(bits.len(), flags().len());
+    for row in bits {
+        assert_eq!(
+            row.number("Worth"),
+            1 << row.number("Bit"),
+            "{}",
+            row.name()
+        );
+    }
+}
+
+/// Every event, refusal, mark and number that a call returns has its sentence, and all but marks say what to look at.
+#[test]
+fn every_answer_is_explained() {
+    let mut names: Vec<&str> = [outcomes(), events()]
+        .concat()
+        .into_iter()
+        .map(|(name, _)| name)
+        .collect();
+    names.push("NOT_REFUSED");
+    for name in names {
+        let row = row_of(name);
+        for title in ["When", "What to look at"] {
+            assert!(
+                row.cell(title).is_some_and(|cell| !cell.is_empty()),
+                "{title} of {name}"
+            );
+        }
+    }
+    let marks = operations_and_marks();
+    for (name, _) in marks
+        .into_iter()
+        .filter(|(name, _)| name.starts_with("MARK_"))
+    {
+        assert!(
+            row_of(name)
+                .cell("When")
+                .is_some_and(|cell| !cell.is_empty()),
+            "{name}"
+        );
+    }
 }
 
 #[test]

@@ -1,4 +1,6 @@
-//! What `library/build` writes, and the C compiler.
+//! What `library/build` writes, and the C compiler. Each file of tests uses a part of it.
+
+#![allow(dead_code)]
 
 use std::env;
 use std::path::{Path, PathBuf};
