@@ -1,2 +1,3 @@
 pub mod Change
 pub mod Unearned
+pub mod Tallies
