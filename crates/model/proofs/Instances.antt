@@ -3,22 +3,24 @@ use Prim.Native.Nat.{ℕ}
 use native.Mathlib.Omega.{arith}
 use mathlib.Core.Path.{_≡_, refl}
 use mathlib.Core.List.{List, [], _∷_, flatten}
-use mathlib.Core.Bool.{true}
 use lib.Dec.{eqb}
 use lib.IntN.{pos}
 use Rattle.model.specs.Numbers.{NONE, NEVER, UNLIMITED}
-use Rattle.model.specs.State.{panel}
+use Rattle.model.specs.Site.{credentialId}
+use Rattle.model.specs.State.{Panel, panel, sites, find, fresh}
 use Rattle.model.specs.Entry.{entryOf}
-use Rattle.model.specs.Calls.{freshState}
+use Rattle.model.specs.Step.{situationOf}
 use Rattle.model.specs.Tally.{standing, tallyOf, countOf}
 use Rattle.model.specs.Part.{SelfContained, partAnswers, partState}
-use Rattle.model.specs.Demands.{Count, Isolation}
+use Rattle.model.specs.Earned.{FittingRule, Earned}
+use Rattle.model.specs.Demands.{Count, Isolation, GrantEarned}
 use Rattle.model.proofs.Open.{definitions}
-use Rattle.model.proofs.Build.{examples}
+use Rattle.model.proofs.Build.{point, credential, card, rule, read, run, examples}
 use Rattle.model.proofs.Parts.{part, nothing, parts}
 use Rattle.model.proofs.Applied.{hall, west, east, both-wings, west-alone}
 use Rattle.model.proofs.Counted.{count-is-tally}
 use Rattle.model.proofs.Isolation.{isolation}
+use Rattle.model.proofs.Granted.{grant-earned}
 
 -- The count of zone 9 in the hall.
 pub hall-counted : pos (countOf 9 hall) ≡ standing (tallyOf 9 hall)
@@ -40,3 +42,20 @@ pub wings-alike :
     × (partState (part (λ i. eqb i 1) nothing) both-wings ≡ partState (part (λ i. eqb i 1) nothing) west-alone)
 unfolding definitions examples west east both-wings west-alone parts Isolation
 wings-alike = isolation (part (λ i. eqb i 1) nothing) both-wings west-alone west-beside-east west-by-itself refl refl
+
+-- Point 2 asks rule 9, which is positive from minute 10 to minute 20 on a Monday.
+unfoldable pub ruled-door : List (List ℕ)
+ruled-door = point 2 0 0 1 NONE NONE ∷ rule 9 1 2 10 20 ∷ credential 5 NEVER UNLIMITED 9 ∷ card 5 55 ∷ []
+
+unfoldable pub door-panel : Panel
+door-panel = panel (flatten ruled-door) (fresh (flatten ruled-door))
+
+-- Card 55 is read at minute 10: the grant is earned, for credential 5.
+pub door-earned : Earned door-panel (entryOf (read 2 600 55)) (credentialId 5)
+unfolding definitions examples ruled-door door-panel GrantEarned
+door-earned = grant-earned (flatten ruled-door) (fresh (flatten ruled-door)) (run (read 2 600 55 ∷ [])) 0 refl (omega arith) refl .1
+
+-- The credential is not master-exempt and the point is in AUTHORIZE: so a rule is named.
+pub door-rule : FittingRule (situationOf door-panel (entryOf (read 2 600 55)) (find 2 2 door-panel)) (sites door-panel) (entryOf (read 2 600 55))
+unfolding definitions examples ruled-door door-panel Earned
+door-rule = door-earned .authorized refl .fitting-rule refl
