@@ -1,16 +1,12 @@
 -- The lengths that a call may rely on once its checks have passed.
 use Prim.Native.Nat.{ℕ, _*_, _/_, _%_}
-use mathlib.Core.Path.{_≡_, refl}
+use mathlib.Core.Path.{_≡_}
 use mathlib.Core.List.{List}
-use mathlib.Core.Bool.{true, not}
-use lib.Dec.{eqb}
+use mathlib.Core.Bool.{true}
 use lib.ListN.{length}
-use borrow.Author.Tests.{eqb-true, not-false}
-use Rattle.model.specs.Calls.{isWorked, freshReturned, runReturned, runJournal}
+use Rattle.model.specs.Calls.{isWorked, runReturned, runJournal}
 use Rattle.model.specs.Lists.{runOn}
-use Rattle.model.proofs.Runs.{worked-through, site-accepted, site-worked, passed-check}
 use Rattle.model.proofs.Entries.{lengths, run-accepted}
-use Rattle.model.specs.declared.Returned.the-variants.{WorkedThrough, StateLength}
 
 -- Site and state of whole records, one as long as the other, and answers of 16 bytes for each entry.
 pub run-lengths : (site state journal answers : List ℕ) → isWorked (runReturned site state journal answers) ≡ true →

@@ -2,7 +2,7 @@
 use Prim.Native.Nat.{ℕ}
 use mathlib.Core.Path.{_≡_, refl}
 use mathlib.Core.List.{List, [], _∷_}
-use Rattle.octets.specs.Octets.{put, digits}
+use Rattle.octets.specs.Octets.{put}
 use Rattle.model.proofs.Open.{definitions}
 use Rattle.model.proofs.Build.{zone, examples}
 

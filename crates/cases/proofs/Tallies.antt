@@ -8,7 +8,7 @@ use Rattle.model.specs.Numbers.{NONE, NEVER, UNLIMITED}
 use Rattle.model.specs.Site.{records}
 use Rattle.model.specs.State.{fresh}
 use Rattle.model.specs.Lists.{workedIn, History}
-use Rattle.model.specs.Tally.{Tally, smaller, move, setTo, signed, passed, tallied, tally, tallyOf, standing, countOf}
+use Rattle.model.specs.Tally.{smaller, move, setTo, signed, passed, tallied, tally, tallyOf, standing, countOf}
 use Rattle.model.proofs.Open.{definitions}
 use Rattle.model.proofs.Build.{zone, point, credential, card, read, adjust, setDisable, lock, cut, run, history, examples}
 use Rattle.cases.proofs.Change.{with-fields}

@@ -10,9 +10,9 @@ use Rattle.model.specs.Site.{credentialId}
 use Rattle.model.specs.State.{Panel, panel, sites, find, fresh}
 use Rattle.model.specs.Entry.{entryOf}
 use Rattle.model.specs.Step.{situationOf}
-use Rattle.model.specs.Earned.{FittingRule, forbidden, Authorized, EarnedAt, Earned}
+use Rattle.model.specs.Earned.{FittingRule, forbidden, Earned}
 use Rattle.model.proofs.Open.{definitions}
-use Rattle.model.proofs.Build.{zone, lowerZone, passbackZone, point, lockingPoint, threatPoint, credential, limitedCredential, absentCredential, factor, card, rule, everyRule, read, adjust, lock, runOf, examples}
+use Rattle.model.proofs.Build.{zone, lowerZone, passbackZone, point, threatPoint, credential, limitedCredential, absentCredential, factor, card, rule, everyRule, read, adjust, lock, runOf, examples}
 use Rattle.cases.proofs.Change.{with-fields}
 
 -- The read e is earned for credential 5, in the state that the journal leaves from fresh.

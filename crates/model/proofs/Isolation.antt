@@ -8,7 +8,7 @@ use borrow.Author.Tests.{eqb-true}
 use Rattle.model.specs.Words.{if_then_else_, keep, all}
 use Rattle.model.specs.Numbers.{access-zone, access-point, access-credential}
 use Rattle.model.specs.Site.{records, kind, recordKind, isAt}
-use Rattle.model.specs.State.{Pair, Panel, panel, sites, pointStateOf, pointBytes, freshPoint, freshRecordAs, freshRecord}
+use Rattle.model.specs.State.{Pair, Panel, panel, pointStateOf, pointBytes, freshPoint, freshRecordAs, freshRecord}
 use Rattle.model.specs.Entry.{entryOf, answerBytes}
 use Rattle.model.specs.Step.{outcomeAs, entryOutcome, apply, panels, after, answers}
 use Rattle.model.specs.Lists.{Worked, History, ended}
@@ -17,11 +17,11 @@ use Rattle.model.specs.Demands.{Isolation}
 use Rattle.model.specs.declared.Entry.{Entry}
 use Rattle.model.specs.declared.PointState.{PointState}
 use Rattle.model.specs.declared.Outcome.{Outcome}
-use Rattle.model.proofs.Laws.{and-left, and-right, only, all-write, sites-apply}
+use Rattle.model.proofs.Laws.{and-left, and-right, only, all-write}
 use Rattle.model.proofs.RoundTrip.{point-back, refusal-back}
-use Rattle.model.proofs.Flat.{freshPanel, sites-fresh}
+use Rattle.model.proofs.Flat.{freshPanel}
 use Rattle.model.proofs.Runs.{workedAt, allEntries, ended-panel, worked-list}
-use Rattle.model.proofs.Border.{kind-at, none-side, holds-at, part-apply, Sided, apply-out, waitInside, pairInside, Alike, answeredInsideAs, answeredInside, sided}
+use Rattle.model.proofs.Border.{kind-at, none-side, holds-at, part-apply, Sided, apply-out, waitInside, pairInside, answeredInsideAs, answeredInside, sided}
 use Rattle.model.proofs.Isolated.{outcome-part}
 
 -- An entry with its answer at a panel.

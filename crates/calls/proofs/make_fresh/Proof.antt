@@ -3,7 +3,7 @@ use mathlib.Core.Path.{sym, _∙_}
 use denote.Ref.{now}
 use borrow.Author.Tests.{not-true, not-false}
 use Rattle.model.specs.Calls.{freshState}
-use Rattle.calls.proofs.Laws.{lengths}
+use Rattle.model.proofs.Entries.{lengths}
 use borrow.Author.Needs.{needs}
 use Rattle.calls.proofs.make_fresh.Statement.{statement}
 use Rattle.calls.proofs.make_fresh.Tie as tie

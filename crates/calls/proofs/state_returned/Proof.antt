@@ -4,7 +4,7 @@ use denote.Ref.{now}
 use borrow.Author.Tests.{not-true, not-false}
 use Rattle.model.specs.Calls.{checkState}
 use borrow.Author.Needs.{needs}
-use Rattle.calls.proofs.Laws.{lengths}
+use Rattle.model.proofs.Entries.{lengths}
 use Rattle.calls.proofs.state_returned.Statement.{statement}
 use Rattle.calls.proofs.state_returned.Tie as tie
 
