@@ -17,11 +17,12 @@ use Rattle.cases.proofs.Change.{with-fields}
 abbrev pub Both : Type 0
 Both = ℤ × ℤ
 
--- Zones 9 and 8 count, zone 7 does not. Point 1 leads into 9, 2 out of 9, 3 from 8 into 9, 4 into 7, all with count adjust; point 9 leads into 9 without.
+-- Zones 8, 9 and 12 count, zone 7 does not. Point 1 leads into 9, 2 out of 9, 3 from 8 into 9, 4 into 7, 5 into 12, 6 out of 12, all with count adjust;
+-- point 9 leads into 9 without. Point 10 leads into 9 and wants two factors.
 unfoldable pub campus : List (List ℕ)
 campus =
-    zone 9 0 ∷ zone 8 0 ∷ with-fields ((1, 1, 0) ∷ []) (zone 7 0) ∷ point 1 8 1 1 9 NONE ∷ point 2 8 1 1 NONE 9 ∷ point 3 8 1 1 9 8
-    ∷ point 4 8 1 1 7 NONE ∷ point 9 0 1 1 9 NONE ∷ credential 5 NEVER UNLIMITED NONE ∷ credential 9 NEVER UNLIMITED NONE ∷ card 5 55 ∷ []
+    zone 9 0 ∷ zone 8 0 ∷ zone 12 0 ∷ with-fields ((1, 1, 0) ∷ []) (zone 7 0) ∷ point 1 8 1 1 9 NONE ∷ point 2 8 1 1 NONE 9 ∷ point 3 8 1 1 9 8
+    ∷ point 4 8 1 1 7 NONE ∷ point 5 8 1 1 12 NONE ∷ point 6 8 1 1 NONE 12 ∷ point 9 0 1 1 9 NONE ∷ point 10 8 1 2 9 NONE ∷ credential 5 NEVER UNLIMITED NONE ∷ credential 9 NEVER UNLIMITED NONE ∷ card 5 55 ∷ []
 
 -- A zone's tally after a journal from fresh.
 unfoldable pub tallied-by : ℕ → List (List ℕ) → Both
@@ -50,16 +51,18 @@ passages = refl
 -- Out of zone 8, the Zone_From of point 3. Zone 7 does not count. "Any other entry changes neither."
 pub other-passages :
     tallied-by 8 (read 3 1 55 ∷ read 1 2 55 ∷ read 2 3 55 ∷ []) ∷ tallied-by 7 (read 4 1 55 ∷ [])
-    ∷ tallied-by 9 (read 4 1 55 ∷ read 9 2 55 ∷ read 1 3 77 ∷ []) ∷ []
-    ≡ (negsuc 0, negsuc 0) ∷ (pos 0, pos 0) ∷ (pos 0, pos 0) ∷ []
+    ∷ tallied-by 9 (read 4 1 55 ∷ read 9 2 55 ∷ read 1 3 77 ∷ []) ∷ tallied-by 9 (read 5 1 55 ∷ []) ∷ tallied-by 9 (read 6 1 55 ∷ [])
+    ∷ tallied-by 9 (read 10 1 55 ∷ []) ∷ []
+    ≡ (negsuc 0, negsuc 0) ∷ (pos 0, pos 0) ∷ (pos 0, pos 0) ∷ (pos 0, pos 0) ∷ (pos 0, pos 0) ∷ (pos 0, pos 0) ∷ []
 unfolding definitions examples tallying
 other-passages = refl
 
 -- "An accepted (refusal 0) operation 2 on the zone makes both its amount".
 pub sets :
     map (tallied-by 9)
-    ((set 9 3 ∷ []) ∷ (read 2 1 55 ∷ set 9 3 ∷ []) ∷ (set 9 3 ∷ set 8 5 ∷ []) ∷ (set 9 3 ∷ with-fields ((3, 1, 1) ∷ []) (set 9 5) ∷ []) ∷ (set 9 3 ∷ read 2 1 55 ∷ []) ∷ [])
-    ≡ (pos 3, pos 3) ∷ (pos 3, pos 3) ∷ (pos 3, pos 3) ∷ (pos 3, pos 3) ∷ (pos 2, pos 2) ∷ []
+    ((set 9 3 ∷ []) ∷ (read 2 1 55 ∷ set 9 3 ∷ []) ∷ (set 9 3 ∷ set 8 5 ∷ []) ∷ (set 9 3 ∷ with-fields ((3, 1, 1) ∷ []) (set 9 5) ∷ []) ∷ (set 9 3 ∷ read 2 1 55 ∷ [])
+    ∷ (set 9 3 ∷ set 12 5 ∷ []) ∷ [])
+    ≡ (pos 3, pos 3) ∷ (pos 3, pos 3) ∷ (pos 3, pos 3) ∷ (pos 3, pos 3) ∷ (pos 2, pos 2) ∷ (pos 3, pos 3) ∷ []
 unfolding definitions examples tallying
 sets = refl
 
@@ -67,8 +70,8 @@ sets = refl
 pub adjustments :
     map (tallied-by 9)
     ((adjust 9 5 ∷ []) ∷ (adjust 9 0xFFFFFFFB ∷ []) ∷ (adjust 9 0x7FFFFFFF ∷ []) ∷ (adjust 9 0x80000000 ∷ []) ∷ (adjust 8 5 ∷ [])
-    ∷ (adjust 9 5 ∷ adjust 9 0xFFFFFFFE ∷ []) ∷ [])
-    ≡ (pos 5, pos 0) ∷ (negsuc 4, negsuc 4) ∷ (pos 0x7FFFFFFF, pos 0) ∷ (negsuc 0x7FFFFFFF, negsuc 0x7FFFFFFF) ∷ (pos 0, pos 0) ∷ (pos 3, pos 0) ∷ []
+    ∷ (adjust 9 5 ∷ adjust 9 0xFFFFFFFE ∷ []) ∷ (adjust 12 5 ∷ []) ∷ [])
+    ≡ (pos 5, pos 0) ∷ (negsuc 4, negsuc 4) ∷ (pos 0x7FFFFFFF, pos 0) ∷ (negsuc 0x7FFFFFFF, negsuc 0x7FFFFFFF) ∷ (pos 0, pos 0) ∷ (pos 3, pos 0) ∷ (pos 0, pos 0) ∷ []
 unfolding definitions examples tallying
 adjustments = refl
 
