@@ -31,9 +31,9 @@ fn enough(cases: usize) -> usize {
 }
 
 fn set<T: FromStr>(name: &str) -> Option<T> {
-    let text = std::env::var(name).ok()?;
-    let number = text.parse().ok();
-    assert!(number.is_some(), "{name} is not a number: {text}");
+    let text = std::env::var_os(name)?;
+    let number = text.to_str().and_then(|text| text.parse().ok());
+    assert!(number.is_some(), "{name} is not a number: {text:?}");
     number
 }
 
