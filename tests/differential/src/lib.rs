@@ -10,9 +10,9 @@
 //! cargo run --release --offline --manifest-path tests/Cargo.toml --bin bench -- --instructions
 //! ```
 //!
-//! WARBLEHAY_SEED and WARBLEHAY_CASES set another seed and another number of random cases,
-//! WARBLEHAY_LIB_DIR and WARBLEHAY_BIN_DIR other places of the library and of the program. Where CI
-//! is set, the program must be there.
+//! WARBLEHAY_SEED and WARBLEHAY_CASES set another seed and another number of random cases, 10,000
+//! or more, WARBLEHAY_LIB_DIR and WARBLEHAY_BIN_DIR other places of the library and of the program.
+//! The gate sets none of them.
 
 #![forbid(unsafe_code)]
 

@@ -119,6 +119,7 @@ fn random_journals() {
 fn a_twin_at_the_far_end() {
     let mut random = settings::random();
     let mut occurrences = Occurrences::default();
+    let mut under_another_role = BTreeSet::new();
     for count in [40, 300] {
         let site = collided(&large_site(&mut random, 100, count));
         for record in records(&site) {
@@ -134,11 +135,13 @@ fn a_twin_at_the_far_end() {
                     compare::check_site([&site, &under_another(&site, record)[..]].concat());
                 assert_eq!(returned == refusal::SITE_TWICE, identifying);
                 occurrences.count_call(returned);
+                under_another_role.insert(identifying);
             }
         }
     }
     settings::print("Site check, twins in one bucket", &occurrences);
     occurrences.assert_refusals(1, &[refusal::SITE_TWICE]);
+    assert_eq!(under_another_role.len(), 2, "a role was never tried");
 }
 
 /// The factor under another credential of the site.
@@ -168,6 +171,7 @@ fn named_in(record: &[u8]) -> Vec<(usize, u8)> {
 fn a_missing_object() {
     let mut random = settings::random();
     let mut occurrences = Occurrences::default();
+    let mut turned_back = BTreeSet::new();
     for count in [40, 300] {
         let site = collided(&large_site(&mut random, 100, count));
         for (index, record) in records(&site).enumerate() {
@@ -178,12 +182,14 @@ fn a_missing_object() {
                 let returned = compare::check_site(damaged);
                 assert_eq!(returned, refusal::SITE_MISSING);
                 occurrences.count_call(returned);
+                turned_back.insert((kind_of(record), offset));
             }
         }
         occurrences.count_call(compare::check_site(site));
     }
     settings::print("Site check, missing objects in one bucket", &occurrences);
     occurrences.assert_refusals(1, &[refusal::SITE_MISSING]);
+    assert_eq!(turned_back.len(), 3, "a field was never tried");
 }
 
 /// The fields of a state record that name objects, with the kind of the object.

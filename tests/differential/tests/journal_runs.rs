@@ -11,8 +11,7 @@ use reference::occurrences::{Occurrences, REFUSALS};
 
 const CASES: usize = 300_000;
 
-/// Of a test's own number of cases, the fewest in which each event, mark and refusal occurs. A
-/// short run by WARBLEHAY_CASES asks for none.
+/// Of a test's own number of cases, the fewest in which each event, mark and refusal occurs.
 fn fewest(cases: usize) -> usize {
     cases / 1_000
 }

@@ -4,28 +4,24 @@ use differential::settings;
 use reference::generate::{case, large_site, Case, Random};
 use reference::numbers::{ENTRY_LENGTH, MOST_JOURNAL_BYTES, MOST_SITE_BYTES, RECORD_LENGTH};
 use reference::print::print_journal;
-use reference::scenarios::paper_cases::{printed_journal, printed_site};
+use reference::scenarios::paper_cases::{printed_journal, printed_site, PRINTED};
 use std::env;
 use std::ffi::OsStr;
 use std::fs;
 use std::path::{Path, PathBuf};
 use std::process::{Command, Output};
-use std::sync::Once;
 
-/// The program that `rt check` writes, or the one in WARBLEHAY_BIN_DIR. Only outside CI may it be
-/// missing; these tests are then left out, and say so once.
-fn program() -> Option<PathBuf> {
+/// The program that `rt check` writes, or the one in WARBLEHAY_BIN_DIR.
+fn program() -> PathBuf {
     let of_repository = || Path::new(env!("CARGO_MANIFEST_DIR")).join("../../target/bin");
     let directory = env::var_os("WARBLEHAY_BIN_DIR").map_or_else(of_repository, PathBuf::from);
     let program = directory.join("print_journal");
-    if program.is_file() {
-        return Some(program);
-    }
-    let missing = format!("{} is missing: run `rt check` first", program.display());
-    assert!(env::var_os("CI").is_none(), "{missing}");
-    static SAID: Once = Once::new();
-    SAID.call_once(|| settings::print("Left out: the printing program", missing + "\n"));
-    None
+    assert!(
+        program.is_file(),
+        "{} is missing: run `rt check` first",
+        program.display()
+    );
+    program
 }
 
 fn run(program: &Path, arguments: &[&OsStr]) -> Output {
@@ -75,20 +71,15 @@ fn assert_complains(program: &Path, arguments: &[&OsStr]) {
 
 #[test]
 fn the_example_of_the_paper() {
-    let Some(program) = program() else { return };
+    let program = program();
     let files = Files::new("example");
     let printed = files.assert_printed(&program, &printed_site(), &printed_journal());
-    assert_eq!(
-        printed,
-        "00010100000000010000000500000001\n\
-         008E0100000000020000000600000001\n\
-         0081010000000003003FFFFF00000001\n"
-    );
+    assert_eq!(printed, PRINTED);
 }
 
 #[test]
 fn inputs_turned_back() {
-    let Some(program) = program() else { return };
+    let program = program();
     let files = Files::new("turned_back");
     let (site, journal) = (printed_site(), printed_journal());
     let twice = [&site[..], &site[..RECORD_LENGTH]].concat();
@@ -108,7 +99,7 @@ fn inputs_turned_back() {
 
 #[test]
 fn empty_files() {
-    let Some(program) = program() else { return };
+    let program = program();
     let files = Files::new("empty");
     let (site, journal) = (printed_site(), printed_journal());
     assert_eq!(files.assert_printed(&program, &site, &[]), "");
@@ -118,41 +109,48 @@ fn empty_files() {
 
 #[test]
 fn the_longest_files_and_longer_ones() {
-    let Some(program) = program() else { return };
+    let program = program();
     let files = Files::new("longest");
     let most = MOST_SITE_BYTES / RECORD_LENGTH;
     let site = large_site(&mut Random::new(1), 100, most);
     let mut journal = printed_journal().repeat(MOST_JOURNAL_BYTES / ENTRY_LENGTH / 3 + 2);
-    for length in [
-        MOST_JOURNAL_BYTES,
-        MOST_JOURNAL_BYTES + 1,
-        MOST_JOURNAL_BYTES + ENTRY_LENGTH,
-    ] {
-        files.assert_printed(&program, &site, &journal[..length]);
+    let longest = files.assert_printed(&program, &site, &journal[..MOST_JOURNAL_BYTES]);
+    assert_eq!(longest.lines().count(), MOST_JOURNAL_BYTES / ENTRY_LENGTH);
+    for longer in [1, ENTRY_LENGTH] {
+        let journal = &journal[..MOST_JOURNAL_BYTES + longer];
+        assert_eq!(files.assert_printed(&program, &site, journal), "10\n");
     }
     journal.resize(500_000, 0);
-    files.assert_printed(&program, &site, &journal);
+    assert_eq!(files.assert_printed(&program, &site, &journal), "10\n");
     for longer in [1, RECORD_LENGTH, 500_000] {
         let site = [&site[..], &vec![0; longer]].concat();
-        files.assert_printed(&program, &site, &printed_journal());
-        files.assert_printed(&program, &site, &journal);
+        let printed = files.assert_printed(&program, &site, &printed_journal());
+        assert_eq!(printed, "1\n");
+        assert_eq!(files.assert_printed(&program, &site, &journal), "1\n");
     }
 }
 
 #[test]
 fn random_and_damaged_files() {
-    let Some(program) = program() else { return };
+    let program = program();
     let files = Files::new("random");
     let mut random = settings::random();
+    let mut worked_through = 0;
     for _ in 0..200 {
         let Case { site, journal, .. } = case(&mut random);
-        files.assert_printed(&program, &site, &journal);
+        let printed = files.assert_printed(&program, &site, &journal);
+        worked_through += usize::from(printed.starts_with("00"));
     }
+    let few = 20..180;
+    assert!(
+        few.contains(&worked_through),
+        "{worked_through} worked through"
+    );
 }
 
 #[test]
 fn a_missing_argument() {
-    let Some(program) = program() else { return };
+    let program = program();
     let files = Files::new("argument");
     files.write(&printed_site(), &printed_journal());
     assert_complains(&program, &[]);
@@ -162,7 +160,7 @@ fn a_missing_argument() {
 /// A file that is not there, and a directory in its place.
 #[test]
 fn an_unreadable_file() {
-    let Some(program) = program() else { return };
+    let program = program();
     let files = Files::new("unreadable");
     files.write(&printed_site(), &printed_journal());
     let absent = files.site.with_file_name("absent");

@@ -40,6 +40,7 @@ static struct bytes example[BUFFERS], damaged[BUFFERS];
 static struct lent lent[BUFFERS];
 static uint8_t *between_guards[BUFFERS];
 static unsigned long returned_times[CALLS][WARBLEHAY_ANSWERS_LENGTH + 1];
+static unsigned long found_times[WARBLEHAY_ACCESS_CREDENTIAL + 1], missed_times[WARBLEHAY_ACCESS_CREDENTIAL + 1];
 static uint64_t sum = 14695981039346656037u;
 
 static void fail(const char *fact, int line)
@@ -230,6 +231,12 @@ static size_t expected_place(unsigned kind, uint32_t instance)
     return WARBLEHAY_NOWHERE;
 }
 
+static void try_place(unsigned kind, size_t place, uint32_t instance)
+{
+    EXPECT(place == expected_place(kind, instance));
+    (place == WARBLEHAY_NOWHERE ? missed_times : found_times)[kind]++;
+}
+
 /* The lookups, of an instance that some record has, or of none. */
 static void try_places(void)
 {
@@ -240,9 +247,9 @@ static void try_places(void)
     lend(SITE);
     const uint8_t *site = lent[SITE].at;
     size_t length = lent[SITE].length;
-    EXPECT(warblehay_place_of_zone(site, length, instance) == expected_place(WARBLEHAY_ACCESS_ZONE, instance));
-    EXPECT(warblehay_place_of_point(site, length, instance) == expected_place(WARBLEHAY_ACCESS_POINT, instance));
-    EXPECT(warblehay_place_of_credential(site, length, instance) == expected_place(WARBLEHAY_ACCESS_CREDENTIAL, instance));
+    try_place(WARBLEHAY_ACCESS_ZONE, warblehay_place_of_zone(site, length, instance), instance);
+    try_place(WARBLEHAY_ACCESS_POINT, warblehay_place_of_point(site, length, instance), instance);
+    try_place(WARBLEHAY_ACCESS_CREDENTIAL, warblehay_place_of_credential(site, length, instance), instance);
     EXPECT(is_as_it_was(SITE));
     take_back(SITE);
 }
@@ -349,6 +356,13 @@ static void report(int call, const char *name, uint32_t last)
     printf("\n");
 }
 
+/* Each lookup has found a record, and none. */
+static void report_places(unsigned kind, const char *name)
+{
+    printf("%s found:%lu missed:%lu\n", name, found_times[kind], missed_times[kind]);
+    EXPECT(found_times[kind] != 0 && missed_times[kind] != 0);
+}
+
 static int mode_of(const char *name)
 {
     static const char *const names[] = { [HEAP] = "heap", [BEFORE] = "before", [AFTER] = "after" };
@@ -378,6 +392,9 @@ int main(int count, char **arguments)
     report(FRESH, "fresh_state", WARBLEHAY_STATE_LENGTH);
     report(CHECK_STATE, "check_state", WARBLEHAY_STATE_FORM);
     report(RUN, "run_journal", WARBLEHAY_ANSWERS_LENGTH);
+    report_places(WARBLEHAY_ACCESS_ZONE, "place_of_zone");
+    report_places(WARBLEHAY_ACCESS_POINT, "place_of_point");
+    report_places(WARBLEHAY_ACCESS_CREDENTIAL, "place_of_credential");
     printf("sum %016llX\n", (unsigned long long)sum);
     return 0;
 }

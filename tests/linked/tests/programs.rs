@@ -142,7 +142,7 @@ fn damaged_buffers() {
         library::assert_succeeds(on_example(program).args([mode, SEED, CASES]))
     };
     let reported = run(&plain, "heap");
-    assert_eq!(reported.lines().count(), 5);
+    assert_eq!(reported.lines().count(), 8);
     for mode in ["heap", "before", "after"] {
         assert_eq!(run(&sanitised, mode), reported, "{mode}");
     }
@@ -181,8 +181,11 @@ fn the_stack_stays_small() {
 fn no_global_state() {
     let archive = library::directory().join("libwarblehay.a");
     let sizes = library::assert_succeeds(Command::new("size").arg(archive));
-    for object in sizes.lines().skip(1) {
+    let objects: Vec<&str> = sizes.lines().skip(1).collect();
+    assert!(!objects.is_empty(), "no object: {sizes}");
+    for object in objects {
         let words: Vec<&str> = object.split_whitespace().collect();
+        assert_ne!(words[0], "0", "code: {object}");
         assert_eq!(words[1..3], ["0", "0"], "data and zeroed data: {object}");
     }
 }

@@ -139,6 +139,7 @@ fn assert_often<K: Ord + Debug>(
     wanted: &[K],
     fewest: usize,
 ) {
+    assert!(fewest > 0, "{name}: a floor of 0 asserts nothing");
     for number in wanted {
         let times = counts.get(number).copied().unwrap_or(0);
         assert!(times >= fewest, "{name} {number:?} occurred {times} times");

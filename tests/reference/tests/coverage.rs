@@ -59,6 +59,7 @@ fn generated_sites_are_accepted_and_generated_states_are_well_formed() {
 #[test]
 fn runs_keep_the_state_well_formed_and_write_nothing_when_turned_back() {
     let mut random = Random::new(16);
+    let mut occurrences = Occurrences::default();
     for _ in 0..CASES / 4 {
         let before = case(&mut random);
         let mut after = before.clone();
@@ -68,6 +69,7 @@ fn runs_keep_the_state_well_formed_and_write_nothing_when_turned_back() {
             &after.journal,
             &mut after.answers,
         );
+        occurrences.count_run(returned, &after.journal, &after.answers);
         if returned == refusal::ACCEPTED {
             assert!(well_formed(&after.site, &after.state));
             continue;
@@ -75,15 +77,18 @@ fn runs_keep_the_state_well_formed_and_write_nothing_when_turned_back() {
         assert_eq!(after.state, before.state);
         assert_eq!(after.answers, before.answers);
     }
+    occurrences.assert_refusals(FEWEST / 4, &Vec::from_iter(REFUSALS));
 }
 
 #[test]
 fn the_fresh_state_stops_after_refusal_5() {
     let mut random = Random::new(5);
+    let mut occurrences = Occurrences::default();
     for _ in 0..CASES / 4 {
         let mut case = case(&mut random);
         let before = case.state.clone();
         let returned = fresh_state(&case.site, &mut case.state);
+        occurrences.count_call(returned);
         let check = check_site(&case.site);
         if check != refusal::ACCEPTED {
             assert_eq!((returned, &case.state), (check, &before));
@@ -94,4 +99,6 @@ fn the_fresh_state_stops_after_refusal_5() {
             assert!(well_formed(&case.site, &case.state));
         }
     }
+    let of_fresh = Vec::from_iter(refusal::SITE_LENGTH..=refusal::STATE_LENGTH);
+    occurrences.assert_refusals(FEWEST / 4, &of_fresh);
 }

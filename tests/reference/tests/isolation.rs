@@ -113,40 +113,43 @@ fn run_list(random: &mut Random, site: &[u8], entries: &[u8]) -> (Vec<u8>, Vec<u
     (answers, state)
 }
 
-/// The west wing's answers and state records with some east wing beside it.
+/// The west wing's answers and state records with some east wing beside it, whose grants are added
+/// up, so that an empty east wing is noticed.
 fn run_with_an_east_wing(
     random: &mut Random,
     base: u32,
     west: &[u8],
     west_entries: &[u8],
+    east_granted: &mut usize,
 ) -> (Vec<u8>, Vec<u8>) {
     let east = east_site(random, base, west);
     let east_entries = east_journal(random, base, &east);
     let site = Mixed::new(random, west, &east, RECORD_LENGTH);
     let journal = Mixed::new(random, west_entries, &east_entries, ENTRY_LENGTH);
     let (answers, state) = run_list(random, &site.bytes, &journal.bytes);
-    (
-        journal.west_of(&answers, ANSWER_LENGTH),
-        site.west_of(&state, RECORD_LENGTH),
-    )
+    let west_answers = journal.west_of(&answers, ANSWER_LENGTH);
+    *east_granted += count_granted(&answers) - count_granted(&west_answers);
+    (west_answers, site.west_of(&state, RECORD_LENGTH))
 }
 
 #[test]
 fn a_self_contained_part_does_not_depend_on_what_stands_beside_it() {
     let mut random = Random::new(31);
-    let mut granted = 0;
+    let (mut granted, mut east_granted) = (0, 0);
     for _ in 0..4_000 {
         let base = base_time(&mut random);
         let west = site(&mut random, base);
         let west_entries = journal(&mut random, base, &west, 30);
         let alone = run_list(&mut random, &west, &west_entries);
-        let one = run_with_an_east_wing(&mut random, base, &west, &west_entries);
-        let other = run_with_an_east_wing(&mut random, base, &west, &west_entries);
-        assert_eq!(one, alone);
-        assert_eq!(other, alone);
+        for _ in 0..2 {
+            let beside =
+                run_with_an_east_wing(&mut random, base, &west, &west_entries, &mut east_granted);
+            assert_eq!(beside, alone);
+        }
         granted += count_granted(&alone.0);
     }
     assert!(granted > 4_000, "{granted} grants in the west wing");
+    assert!(east_granted > 4_000, "{east_granted} grants beside it");
 }
 
 fn count_granted(answers: &[u8]) -> usize {

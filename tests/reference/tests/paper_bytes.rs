@@ -1,31 +1,47 @@
-//! The site and journal of document 01's printed journal, written out byte by byte.
+//! The site, the journal and the text of document 01's printed journal are the files of the printing
+//! program, here and in docs/FORMATS.md.
 
-use reference::scenarios::paper_cases::{printed_journal, printed_site};
+use reference::scenarios::paper_cases::{printed_journal, printed_site, PRINTED};
+use std::fs;
+use std::path::Path;
 
-fn bytes_of(digits: &str) -> Vec<u8> {
-    let digits: Vec<char> = digits.chars().filter(|digit| *digit != ' ').collect();
-    digits
-        .chunks_exact(2)
-        .map(|pair| u8::from_str_radix(&String::from_iter(pair), 16).expect("hexadecimal digits"))
-        .collect()
+fn file(path: &str) -> Vec<u8> {
+    let repository = Path::new(env!("CARGO_MANIFEST_DIR")).join("../..");
+    fs::read(repository.join(path)).expect("the file is there")
+}
+
+fn site() -> Vec<u8> {
+    file("crates/print_journal/data/site")
+}
+
+fn journal() -> Vec<u8> {
+    file("crates/print_journal/data/journal")
 }
 
 /// The builders are held to the offsets of the paper and not only to the readers.
 #[test]
-fn the_builders_write_the_bytes_of_the_paper() {
-    let site = bytes_of(concat!(
-        "01 01 00 00 00000017 00000001 00000000 00000000 00000000 00000000 00000000",
-        "02 0A 01 01 00000002 00000017 003FFFFF 00 00 0000 00000000 00000000 00000000",
-        "04 00 00 00 00000005 00000000 FFFFFFFF FFFF FFFF FFFF 0000 003FFFFF 003FFFFF",
-        "05 00 01 00 00000005 02000000 00000000 0000000000000055 00000000 00000000",
-        "04 00 00 00 00000006 00000000 FFFFFFFF FFFF FFFF FFFF 0000 003FFFFF 003FFFFF",
-        "05 00 01 00 00000006 02000000 00000000 0000000000000066 00000000 00000000",
-    ));
-    let journal = bytes_of(concat!(
-        "01 02 0000 00000064 00000002 00000000 0000000000000055",
-        "01 02 0000 000000A0 00000002 00000000 0000000000000066",
-        "01 02 0000 000000DC 00000002 00000000 0000000000000077",
-    ));
-    assert_eq!(printed_site(), site);
-    assert_eq!(printed_journal(), journal);
+fn the_builders_write_the_bytes_of_the_example() {
+    assert_eq!(printed_site(), site());
+    assert_eq!(printed_journal(), journal());
+}
+
+#[test]
+fn the_text_is_that_of_the_example() {
+    assert_eq!(PRINTED.as_bytes(), file("crates/print_journal/stdout"));
+}
+
+/// The digits of the indented lines, each up to the note beside it.
+fn digits_in(text: &str) -> String {
+    let lines = text.lines().filter_map(|line| line.strip_prefix("    "));
+    let digits = lines.filter_map(|line| line.split("   ").next());
+    digits.flat_map(|digits| digits.split(' ')).collect()
+}
+
+#[test]
+fn the_formats_show_the_bytes_of_the_example() {
+    let formats = String::from_utf8(file("docs/FORMATS.md")).expect("text");
+    let (_, shown) = formats.split_once("## An example").expect("the example");
+    let bytes = [site(), journal()].concat();
+    let digits: String = bytes.iter().map(|byte| format!("{byte:02X}")).collect();
+    assert_eq!(digits_in(shown), digits + &PRINTED.replace('\n', ""));
 }

@@ -8,14 +8,19 @@ use crate::numbers::{
 };
 use crate::print::print_by;
 
-const CARD_5: [u8; 8] = [0, 0, 0, 0, 0, 0, 0, 0x55];
-const CARD_6: [u8; 8] = [0, 0, 0, 0, 0, 0, 0, 0x66];
-const UNKNOWN_CARD: [u8; 8] = [0, 0, 0, 0, 0, 0, 0, 0x77];
+const CARD_5: [u8; 8] = [0, 0, 0, 0, 0, 0, 0, 55];
+const CARD_6: [u8; 8] = [0, 0, 0, 0, 0, 0, 0, 66];
+const UNKNOWN_CARD: [u8; 8] = [0, 0, 0, 0, 0, 0, 0, 77];
 
 /// A card of the default format at a point.
 fn badge(time: u32, point: u32, card: [u8; 8]) -> EntryFields {
     EntryFields::read_factor(time, point, FORMAT, card)
 }
+
+/// The text that document 01 gives for the printed journal.
+pub const PRINTED: &str = "00010100000000010000000500000001\n\
+                           008E0100000000020000000600000001\n\
+                           0081010000000003003FFFFF00000001\n";
 
 /// The site of the printed journal.
 pub fn printed_site() -> Vec<u8> {
@@ -52,12 +57,7 @@ pub fn printed_journal() -> Vec<u8> {
 
 pub fn the_printed_journal_gives_its_three_lines(engine: Engine) {
     let printed = print_by(engine, &printed_site(), &printed_journal());
-    assert_eq!(
-        printed,
-        "00010100000000010000000500000001\n\
-         008E0100000000020000000600000001\n\
-         0081010000000003003FFFFF00000001\n"
-    );
+    assert_eq!(printed, PRINTED);
 }
 
 pub fn an_input_turned_back_prints_only_its_number(engine: Engine) {
