@@ -1,1 +1,4 @@
 pub mod Change
+pub mod Records
+pub mod SiteFields
+pub mod SiteCheck
