@@ -1,4 +1,6 @@
 pub mod Change
 pub mod Records
+pub mod Octets
 pub mod SiteFields
 pub mod SiteCheck
+pub mod Lookups
