@@ -4,3 +4,4 @@ pub mod Octets
 pub mod SiteFields
 pub mod SiteCheck
 pub mod Lookups
+pub mod States
