@@ -5,3 +5,5 @@ pub mod SiteFields
 pub mod SiteCheck
 pub mod Lookups
 pub mod States
+pub mod Entries
+pub mod TurnedBack
