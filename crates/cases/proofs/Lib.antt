@@ -7,3 +7,5 @@ pub mod Lookups
 pub mod States
 pub mod Entries
 pub mod TurnedBack
+pub mod Runs
+pub mod Printed
