@@ -30,8 +30,7 @@ records-at = tt
 
 -- Refusal 1: "site not a multiple of 32, or above 64,000 bytes". "At most 2,000; none is allowed." A record of zeros has no kind.
 pub lengths :
-    map (λ n. number (checkSite (replicate n 0))) (0 ∷ 1 ∷ 31 ∷ 32 ∷ 33 ∷ 64000 ∷ 64001 ∷ 64032 ∷ [])
-    ≡ 0 ∷ 1 ∷ 1 ∷ 2 ∷ 1 ∷ 2 ∷ 1 ∷ 1 ∷ []
+    map (λ n. number (checkSite (replicate n 0))) (0 ∷ 1 ∷ 31 ∷ 32 ∷ 33 ∷ 64000 ∷ 64032 ∷ []) ≡ 0 ∷ 1 ∷ 1 ∷ 2 ∷ 1 ∷ 2 ∷ 1 ∷ []
 unfolding definitions
 lengths = refl
 

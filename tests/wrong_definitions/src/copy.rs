@@ -1,6 +1,7 @@
 //! A working copy: the crate `octets` with its definitions alone, and a crate `model` with the definitions and, as its proofs, the cases. They
 //! stand in one crate so that one check, which goes over what a change reaches, tries it.
 
+use std::collections::{BTreeMap, BTreeSet};
 use std::fs;
 use std::os::unix::process::CommandExt;
 use std::path::{Path, PathBuf};
@@ -18,11 +19,18 @@ pub enum Verdict {
 
 /// The modules of the model's proofs that the cases rest on.
 const BASE: [&str; 3] = ["Open", "Build", "Parts"];
-const LIMIT: Duration = Duration::from_secs(180);
+const LIMIT: Duration = Duration::from_secs(120);
 
+/// The same, with the module of the case that refused it.
+pub struct Outcome {
+    pub verdict: Verdict,
+    pub module: Option<String>,
+}
+
+/// The cases are kept by module.
 pub struct WorkingCopy {
     root: PathBuf,
-    cases: Vec<String>,
+    cases: BTreeMap<String, String>,
     whole: bool,
 }
 
@@ -59,19 +67,15 @@ impl WorkingCopy {
             copy_dir(&from(dir), &to(dir))?;
         }
         let read = |path: &Path| fs::read_to_string(path).or_else(|e| failed(path, e));
-        let mut list = String::new();
         for name in BASE {
             let file = format!("model/proofs/{name}.antt");
             write(&to(&file), &read(&from(&file))?)?;
-            list += &format!("pub mod {name}\n");
         }
-        let cases: Vec<String> = case_names(&read(&from("cases/proofs/Lib.antt"))?);
-        for name in &cases {
+        let mut cases = BTreeMap::new();
+        for name in case_names(&read(&from("cases/proofs/Lib.antt"))?) {
             let text = read(&from(&format!("cases/proofs/{name}.antt")))?;
-            write(&to(&format!("model/proofs/{name}.antt")), &in_model(&text))?;
-            list += &format!("pub mod {name}\n");
+            cases.insert(name, in_model(&text));
         }
-        write(&to("model/proofs/Lib.antt"), &list)?;
         Ok(WorkingCopy {
             root: root.to_path_buf(),
             cases,
@@ -79,25 +83,93 @@ impl WorkingCopy {
         })
     }
 
-    /// The verdict on a file (as `model/specs/Site.antt`) made `text`; the file is put back.
-    pub fn verdict(&self, file: &str, text: &str) -> Result<Verdict, String> {
+    /// What becomes of a file (as `model/specs/Site.antt`) made `text`; the file is put back. The cases of the module `first` are tried before all.
+    pub fn outcome(
+        &self,
+        file: &str,
+        text: &str,
+        first: Option<&String>,
+    ) -> Result<Outcome, String> {
         let path = self.root.join("crates").join(file);
         let before = fs::read_to_string(&path).or_else(|e| failed(&path, e))?;
         write(&path, text)?;
-        let verdict = self.check();
+        let outcome = self.tried(first);
         write(&path, &before)?;
-        verdict
+        outcome
     }
 
-    /// The verdict on the copy as it stands.
-    pub fn check(&self) -> Result<Verdict, String> {
-        self.run(if self.whole { "check" } else { "dev" })
+    fn tried(&self, first: Option<&String>) -> Result<Outcome, String> {
+        let first = first.filter(|name| self.cases.contains_key(*name) && !self.whole);
+        if let Some(name) = first {
+            let outcome = self.check(&self.needed(name))?;
+            if outcome.verdict != Verdict::Accepted {
+                return Ok(outcome);
+            }
+        }
+        self.check_all()
     }
 
-    fn run(&self, verb: &str) -> Result<Verdict, String> {
+    /// What becomes of the copy as it stands.
+    pub fn check_all(&self) -> Result<Outcome, String> {
+        self.check(&self.cases.keys().cloned().collect())
+    }
+
+    /// A module of cases and those that it uses.
+    fn needed(&self, name: &str) -> BTreeSet<String> {
+        let mut found = BTreeSet::from([name.to_string()]);
+        let mut todo = vec![name.to_string()];
+        while let Some(module) = todo.pop() {
+            let uses =
+                |other: &str| self.cases[&module].contains(&format!("·proofs.proofs.{other}."));
+            for other in self.cases.keys().filter(|other| uses(other)) {
+                if found.insert(other.clone()) {
+                    todo.push(other.clone());
+                }
+            }
+        }
+        found
+    }
+
+    /// The check of the definitions with some modules of cases.
+    fn check(&self, modules: &BTreeSet<String>) -> Result<Outcome, String> {
+        let proofs = self.root.join("crates/model/proofs");
+        let mut list: String = BASE
+            .iter()
+            .map(|name| format!("pub mod {name}\n"))
+            .collect();
+        for (name, text) in &self.cases {
+            let path = proofs.join(format!("{name}.antt"));
+            if modules.contains(name) {
+                list += &format!("pub mod {name}\n");
+                write(&path, text)?;
+            } else if path.exists() {
+                fs::remove_file(&path).or_else(|e| failed(&path, e))?;
+            }
+        }
+        write(&proofs.join("Lib.antt"), &list)?;
         let log = self.root.join("log");
-        let out = fs::File::create(&log).or_else(|e| failed(&log, e))?;
-        let err = out.try_clone().or_else(|e| failed(&log, e))?;
+        let Some(proved) = self.run(&log)? else {
+            return Ok(Outcome {
+                verdict: Verdict::NotEnded,
+                module: None,
+            });
+        };
+        let said = fs::read_to_string(&log).or_else(|e| failed(&log, e))?;
+        Ok(if proved {
+            Outcome {
+                verdict: Verdict::Accepted,
+                module: None,
+            }
+        } else {
+            self.judged(&said)
+        })
+    }
+
+    /// Whether the check proves all; nothing if it does not end in time.
+    fn run(&self, log: &Path) -> Result<Option<bool>, String> {
+        let verb = if self.whole { "check" } else { "dev" };
+        let out = fs::File::create(log).or_else(|e| failed(log, e))?;
+        let err = out.try_clone().or_else(|e| failed(log, e))?;
         let mut shell = Command::new("sh");
         shell.args(["-c", &format!("ulimit -d 6000000; exec rt {verb} model")]);
         shell
@@ -108,42 +180,39 @@ impl WorkingCopy {
             .process_group(0);
         let mut child = shell.spawn().or_else(|e| failed(Path::new("rt"), e))?;
         let start = Instant::now();
-        let status = loop {
+        while start.elapsed() < LIMIT {
             if let Some(status) = child.try_wait().or_else(|e| failed(Path::new("rt"), e))? {
-                break status;
-            }
-            if start.elapsed() > LIMIT {
-                let group = format!("-{}", child.id());
-                Command::new("kill")
-                    .args(["--", &group])
-                    .status()
-                    .or_else(|e| failed(Path::new("kill"), e))?;
-                child.wait().or_else(|e| failed(Path::new("rt"), e))?;
-                return Ok(Verdict::NotEnded);
+                return Ok(Some(status.success()));
             }
             std::thread::sleep(Duration::from_millis(20));
-        };
-        let said = fs::read_to_string(&log).or_else(|e| failed(&log, e))?;
-        Ok(if status.success() {
-            Verdict::Accepted
-        } else {
-            self.judged(&said)
-        })
+        }
+        let group = format!("-{}", child.id());
+        Command::new("kill")
+            .args(["--", &group])
+            .status()
+            .or_else(|e| failed(Path::new("kill"), e))?;
+        child.wait().or_else(|e| failed(Path::new("rt"), e))?;
+        Ok(None)
     }
 
     /// A failed check refuses the change where the error is in a case.
-    fn judged(&self, said: &str) -> Verdict {
-        let in_case = |line: &str| {
+    fn judged(&self, said: &str) -> Outcome {
+        let in_line = |line: &str| {
             self.cases
-                .iter()
-                .any(|c| line.contains(&format!("/model/proofs/{c}.antt:")))
+                .keys()
+                .find(|c| line.contains(&format!("/model/proofs/{c}.antt:")))
+                .cloned()
         };
-        let refused = said.lines().any(|l| l.contains(": error: ") && in_case(l));
-        if refused {
+        let module = said
+            .lines()
+            .filter(|l| l.contains(": error: "))
+            .find_map(in_line);
+        let verdict = if module.is_some() {
             Verdict::Refused
         } else {
             Verdict::NotTyped
-        }
+        };
+        Outcome { verdict, module }
     }
 }
 

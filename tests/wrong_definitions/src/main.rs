@@ -22,10 +22,11 @@ use copy::{Verdict, WorkingCopy};
 use definitions::{Definition, File};
 use edits::Edit;
 use names::Names;
-use std::collections::BTreeSet;
+use std::collections::{BTreeMap, BTreeSet};
 use std::fs;
 use std::path::{Path, PathBuf};
 use std::process::ExitCode;
+use std::sync::atomic::{AtomicUsize, Ordering};
 use std::sync::Mutex;
 use tokens::plain;
 
@@ -186,6 +187,13 @@ fn selected(w: &Wrong, o: &Options) -> bool {
     file && o.definition.as_ref().is_none_or(|d| *d == w.definition)
 }
 
+/// What the threads share: the next wrong definition, the verdicts, and for each definition and file the module that refused it last.
+struct Shared {
+    next: AtomicUsize,
+    verdicts: Mutex<Vec<Verdict>>,
+    refusing: Mutex<BTreeMap<String, String>>,
+}
+
 /// The verdicts, in the order of the wrong definitions.
 fn tried(
     wrong: &[Wrong],
@@ -194,37 +202,28 @@ fn tried(
     repository: &Path,
     o: &Options,
 ) -> Result<Vec<Verdict>, String> {
-    let next = Mutex::new(0);
-    let verdicts = Mutex::new(vec![Verdict::NotEnded; wrong.len()]);
+    let shared = Shared {
+        next: AtomicUsize::new(0),
+        verdicts: Mutex::new(vec![Verdict::NotEnded; wrong.len()]),
+        refusing: Mutex::new(BTreeMap::new()),
+    };
     let work = |job: usize| -> Result<(), String> {
         let root = repository
             .join("target/wrong_definitions")
             .join(format!("copy{job}"));
         let copy = WorkingCopy::new(repository, &root, o.whole)?;
-        if copy.check()? != Verdict::Accepted {
+        if copy.check_all()?.verdict != Verdict::Accepted {
             return Err(format!(
                 "the cases do not hold as they are: see {}",
                 root.join("log").display()
             ));
         }
         loop {
-            let i = {
-                let mut n = next.lock().expect("no panic");
-                *n += 1;
-                *n - 1
-            };
+            let i = shared.next.fetch_add(1, Ordering::Relaxed);
             let Some(w) = wrong.get(i) else { return Ok(()) };
-            let verdict = copy.verdict(
-                &w.file,
-                &imports::with_imports(&w.text, &added(w, files), names),
-            )?;
-            if verdict != Verdict::Refused {
-                println!(
-                    "{verdict:?}\nfile: {}\ndefinition: {}\nold: {}\nnew: {}\n",
-                    w.file, w.definition, w.old, w.new
-                );
-            }
-            verdicts.lock().expect("no panic")[i] = verdict;
+            let text = imports::with_imports(&w.text, &added(w, files), names);
+            let verdict = shared.outcome(w, &text, &copy)?;
+            shared.verdicts.lock().expect("no panic")[i] = verdict;
         }
     };
     std::thread::scope(|s| {
@@ -235,7 +234,37 @@ fn tried(
             .into_iter()
             .try_for_each(|t| t.join().expect("no panic"))
     })?;
-    Ok(verdicts.into_inner().expect("no panic"))
+    Ok(shared.verdicts.into_inner().expect("no panic"))
+}
+
+impl Shared {
+    /// The verdict on one; what is not refused is printed.
+    fn outcome(&self, w: &Wrong, text: &str, copy: &WorkingCopy) -> Result<Verdict, String> {
+        let definition = format!("{} {}", w.file, w.definition);
+        let first = {
+            let refusing = self.refusing.lock().expect("no panic");
+            refusing.get(&definition).or(refusing.get(&w.file)).cloned()
+        };
+        let named = w
+            .file
+            .rsplit('/')
+            .next()
+            .and_then(|n| n.strip_suffix(".antt"))
+            .map(str::to_string);
+        let outcome = copy.outcome(&w.file, text, first.or(named).as_ref())?;
+        if let Some(module) = outcome.module {
+            let mut refusing = self.refusing.lock().expect("no panic");
+            refusing.insert(definition, module.clone());
+            refusing.insert(w.file.clone(), module);
+        }
+        if outcome.verdict != Verdict::Refused {
+            println!(
+                "{:?}\nfile: {}\ndefinition: {}\nold: {}\nnew: {}\n",
+                outcome.verdict, w.file, w.definition, w.old, w.new
+            );
+        }
+        Ok(outcome.verdict)
+    }
 }
 
 /// The words of a wrong definition that its file does not have as it stands: names to bring in.
