@@ -5,6 +5,7 @@ pub mod SiteFields
 pub mod SiteCheck
 pub mod Lookups
 pub mod States
+pub mod Panels
 pub mod Entries
 pub mod TurnedBack
 pub mod Runs

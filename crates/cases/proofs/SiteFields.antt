@@ -1,5 +1,5 @@
 -- "Site records, 32 bytes each": refusal 2, "a record's kind, field or spare byte out of range". Of each kind a record with its fields at their
--- largest is accepted, and each field one above it, each spare byte and each spare flag is refused.
+-- largest is accepted, and each field one above it, each spare byte, each spare flag and a kind other than 1 to 5 is refused.
 use Prim.Native.Nat.{ℕ}
 use mathlib.Core.Path.{_≡_, refl}
 use mathlib.Core.List.{List, [], _∷_}
@@ -16,18 +16,11 @@ largest-zone =
 
 pub zone-fields :
     changed-numbers [] largest-zone
-    ([] ∷ ((1, 1, 0) ∷ []) ∷ ((1, 1, 2) ∷ []) ∷ ((2, 1, 0) ∷ []) ∷ ((2, 1, 3) ∷ []) ∷ ((3, 1, 1) ∷ []) ∷ ((4, 4, 0) ∷ [])
+    ([] ∷ ((0, 1, 0) ∷ []) ∷ ((1, 1, 0) ∷ []) ∷ ((1, 1, 2) ∷ []) ∷ ((2, 1, 0) ∷ []) ∷ ((2, 1, 3) ∷ []) ∷ ((3, 1, 1) ∷ []) ∷ ((4, 4, 0) ∷ [])
     ∷ ((4, 4, 4194303) ∷ []) ∷ ((20, 1, 1) ∷ []) ∷ ((31, 1, 1) ∷ []) ∷ [])
-    ≡ 0 ∷ 0 ∷ 2 ∷ 0 ∷ 2 ∷ 2 ∷ 0 ∷ 2 ∷ 2 ∷ 2 ∷ []
+    ≡ 0 ∷ 2 ∷ 0 ∷ 2 ∷ 0 ∷ 2 ∷ 2 ∷ 0 ∷ 2 ∷ 2 ∷ 2 ∷ []
 unfolding definitions tables put largest-zone
 zone-fields = refl
-
--- "0 kind": 1 to 5.
-pub kinds :
-    changed-numbers [] (record-of []) (((0, 1, 0) ∷ []) ∷ ((0, 1, 1) ∷ []) ∷ ((0, 1, 6) ∷ []) ∷ ((0, 1, 255) ∷ []) ∷ [])
-    ≡ 2 ∷ 0 ∷ 2 ∷ 2 ∷ []
-unfolding definitions tables put
-kinds = refl
 
 -- "Kind 2, point. Flags: 0 out of service, 1 upper enforced, 2 lower enforced, 3 count adjust, 4 muster. 2: mode 0 AUTHORIZE, 1 GRANT_ACTIVE,
 -- 2 DENY_ALL. 3: factors wanted, 1 or 2. 8 Zone_To, 12 Zone_From (4 each, NONE allowed, never the same zone: refusal 2). 16 threat level
@@ -43,9 +36,9 @@ two-zones = record-of ((0, 1, 1) ∷ (4, 4, 8) ∷ []) ∷ record-of ((0, 1, 1) 
 
 pub point-fields :
     changed-numbers [] largest-point
-    ([] ∷ ((1, 1, 32) ∷ []) ∷ ((2, 1, 3) ∷ []) ∷ ((3, 1, 0) ∷ []) ∷ ((3, 1, 1) ∷ []) ∷ ((3, 1, 3) ∷ []) ∷ ((4, 4, 4194303) ∷ [])
+    ([] ∷ ((0, 1, 0) ∷ []) ∷ ((1, 1, 32) ∷ []) ∷ ((2, 1, 3) ∷ []) ∷ ((3, 1, 0) ∷ []) ∷ ((3, 1, 1) ∷ []) ∷ ((3, 1, 3) ∷ []) ∷ ((4, 4, 4194303) ∷ [])
     ∷ ((16, 1, 101) ∷ []) ∷ ((28, 1, 1) ∷ []) ∷ ((31, 1, 1) ∷ []) ∷ [])
-    ≡ 0 ∷ 2 ∷ 2 ∷ 2 ∷ 0 ∷ 2 ∷ 2 ∷ 2 ∷ 2 ∷ 2 ∷ []
+    ≡ 0 ∷ 2 ∷ 2 ∷ 2 ∷ 2 ∷ 0 ∷ 2 ∷ 2 ∷ 2 ∷ 2 ∷ 2 ∷ []
 unfolding definitions tables put largest-point
 point-fields = refl
 
@@ -64,9 +57,9 @@ largest-rule = record-of ((0, 1, 3) ∷ (1, 1, 15) ∷ (3, 1, 127) ∷ (4, 4, 41
 
 pub rule-fields :
     changed-numbers [] largest-rule
-    ([] ∷ ((1, 1, 16) ∷ []) ∷ ((3, 1, 128) ∷ []) ∷ ((4, 4, 4194303) ∷ []) ∷ ((12, 2, 1439) ∷ []) ∷ ((14, 2, 1439) ∷ [])
+    ([] ∷ ((0, 1, 0) ∷ []) ∷ ((1, 1, 16) ∷ []) ∷ ((3, 1, 128) ∷ []) ∷ ((4, 4, 4194303) ∷ []) ∷ ((12, 2, 1439) ∷ []) ∷ ((14, 2, 1439) ∷ [])
     ∷ ((14, 2, 1441) ∷ []) ∷ ((12, 2, 0) ∷ (14, 2, 0) ∷ []) ∷ ((2, 1, 1) ∷ []) ∷ ((8, 4, 8) ∷ []) ∷ ((16, 1, 1) ∷ []) ∷ ((31, 1, 1) ∷ []) ∷ [])
-    ≡ 0 ∷ 2 ∷ 2 ∷ 2 ∷ 0 ∷ 2 ∷ 2 ∷ 0 ∷ 2 ∷ 2 ∷ 2 ∷ 2 ∷ []
+    ≡ 0 ∷ 2 ∷ 2 ∷ 2 ∷ 2 ∷ 0 ∷ 2 ∷ 2 ∷ 0 ∷ 2 ∷ 2 ∷ 2 ∷ 2 ∷ []
 unfolding definitions tables put largest-rule
 rule-fields = refl
 
@@ -90,9 +83,9 @@ largest-credential =
 
 pub credential-fields :
     changed-numbers [] largest-credential
-    ([] ∷ ((1, 1, 32) ∷ []) ∷ ((2, 1, 4) ∷ []) ∷ ((3, 1, 101) ∷ []) ∷ ((4, 4, 4194303) ∷ []) ∷ ((22, 1, 1) ∷ []) ∷ ((23, 1, 1) ∷ [])
+    ([] ∷ ((0, 1, 0) ∷ []) ∷ ((1, 1, 32) ∷ []) ∷ ((2, 1, 4) ∷ []) ∷ ((3, 1, 101) ∷ []) ∷ ((4, 4, 4194303) ∷ []) ∷ ((22, 1, 1) ∷ []) ∷ ((23, 1, 1) ∷ [])
     ∷ ((24, 4, 4194304) ∷ []) ∷ ((28, 4, 4194304) ∷ []) ∷ ((24, 4, 7) ∷ (28, 4, 8) ∷ []) ∷ [])
-    ≡ 0 ∷ 2 ∷ 2 ∷ 2 ∷ 2 ∷ 2 ∷ 2 ∷ 2 ∷ 2 ∷ 0 ∷ []
+    ≡ 0 ∷ 2 ∷ 2 ∷ 2 ∷ 2 ∷ 2 ∷ 2 ∷ 2 ∷ 2 ∷ 2 ∷ 0 ∷ []
 unfolding definitions tables put largest-credential
 credential-fields = refl
 
@@ -104,9 +97,9 @@ largest-factor =
 
 pub factor-fields :
     changed-numbers (largest-credential ∷ []) largest-factor
-    ([] ∷ ((1, 1, 1) ∷ []) ∷ ((2, 1, 0) ∷ []) ∷ ((2, 1, 1) ∷ []) ∷ ((2, 1, 3) ∷ []) ∷ ((3, 1, 0) ∷ []) ∷ ((3, 1, 6) ∷ [])
+    ([] ∷ ((0, 1, 0) ∷ []) ∷ ((0, 1, 6) ∷ []) ∷ ((1, 1, 1) ∷ []) ∷ ((2, 1, 0) ∷ []) ∷ ((2, 1, 1) ∷ []) ∷ ((2, 1, 3) ∷ []) ∷ ((3, 1, 0) ∷ []) ∷ ((3, 1, 6) ∷ [])
     ∷ ((4, 4, 4194303) ∷ []) ∷ ((8, 1, 1) ∷ []) ∷ ((8, 1, 2) ∷ []) ∷ ((9, 1, 1) ∷ []) ∷ ((15, 1, 1) ∷ []) ∷ ((24, 1, 1) ∷ [])
     ∷ ((31, 1, 1) ∷ []) ∷ [])
-    ≡ 0 ∷ 2 ∷ 2 ∷ 0 ∷ 2 ∷ 0 ∷ 2 ∷ 2 ∷ 2 ∷ 0 ∷ 2 ∷ 2 ∷ 2 ∷ 2 ∷ []
+    ≡ 0 ∷ 2 ∷ 2 ∷ 2 ∷ 2 ∷ 0 ∷ 2 ∷ 0 ∷ 2 ∷ 2 ∷ 2 ∷ 0 ∷ 2 ∷ 2 ∷ 2 ∷ 2 ∷ []
 unfolding definitions tables put largest-credential largest-factor
 factor-fields = refl

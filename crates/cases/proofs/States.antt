@@ -49,16 +49,16 @@ locked-bytes = refl
 pub point-written :
     map
     (λ locked.
-        pointBytes
-        record {
-          tag = 0x01020304;
-          failures = 5;
-          locked = locked;
-          «lock_time» = 0x08090A0B;
-          «first_failure» = 0x0C0D0E0F;
-          «waiting_credential» = record { 0 = 0x10111213 };
-          «waiting_since» = 0x14151617;
-        })
+    pointBytes
+    record {
+      tag = 0x01020304;
+      failures = 5;
+      locked = locked;
+      «lock_time» = 0x08090A0B;
+      «first_failure» = 0x0C0D0E0F;
+      «waiting_credential» = record { 0 = 0x10111213 };
+      «waiting_since» = 0x14151617;
+    })
     (true ∷ false ∷ [])
     ≡ (1 ∷ 2 ∷ 3 ∷ 4 ∷ 5 ∷ 1 ∷ 0 ∷ 0 ∷ 8 ∷ 9 ∷ 10 ∷ 11 ∷ 12 ∷ 13 ∷ 14 ∷ 15 ∷ 16 ∷ 17 ∷ 18 ∷ 19 ∷ 20 ∷ 21 ∷ 22 ∷ 23 ∷ 0 ∷ 0 ∷ 0 ∷ 0 ∷ 0 ∷ 0 ∷ 0 ∷ 0 ∷ [])
     ∷ (1 ∷ 2 ∷ 3 ∷ 4 ∷ 5 ∷ 0 ∷ 0 ∷ 0 ∷ 8 ∷ 9 ∷ 10 ∷ 11 ∷ 12 ∷ 13 ∷ 14 ∷ 15 ∷ 16 ∷ 17 ∷ 18 ∷ 19 ∷ 20 ∷ 21 ∷ 22 ∷ 23 ∷ 0 ∷ 0 ∷ 0 ∷ 0 ∷ 0 ∷ 0 ∷ 0 ∷ 0 ∷ []) ∷ []
