@@ -97,17 +97,17 @@ pub credential-written :
 unfolding definitions
 credential-written = refl
 
--- ── a site of every kind: zone 8, point 2 with at most 3 failures, point 3 without, a rule, credential 5, a factor of it
+-- ── a site of every kind: zone 8, point 2 with at most 3 failures, point 3 without, a rule, credential 5, and credential 6 after a factor of it
 
 unfoldable pub every-kind : List ℕ
 every-kind =
     flatten
     (zone-at 8 ∷ with-fields ((17, 1, 3) ∷ []) (point-at 2 8 4194303) ∷ point-at 3 4194303 8 ∷ rule-at 1 1 8
-    ∷ with-fields ((2, 1, 3) ∷ (16, 2, 0x0102) ∷ (18, 2, 0x0304) ∷ []) (credential-at 5) ∷ factor-at 1 5 7 ∷ [])
+    ∷ with-fields ((2, 1, 3) ∷ (16, 2, 0x0102) ∷ (18, 2, 0x0304) ∷ []) (credential-at 5) ∷ factor-at 1 6 7 ∷ credential-at 6 ∷ [])
 
 -- "Fresh: uses, days, disable from the site; references NONE; last use and entered never; else zero." "Rule, factor: zero."
 pub fresh-bytes :
-    freshState every-kind (replicate 192 7)
+    freshState every-kind (replicate 224 7)
     ≡ record {
       returned = WorkedThrough;
       state =
@@ -118,15 +118,18 @@ pub fresh-bytes :
           ∷ replicate 32 0
           ∷ (0x01 ∷ 0x02 ∷ 0x03 ∷ 0x04 ∷ 0xFF ∷ 0xFF ∷ 0xFF ∷ 0xFF ∷ 0x00 ∷ 0x3F ∷ 0xFF ∷ 0xFF ∷ 0xFF ∷ 0xFF ∷ 0xFF ∷ 0xFF ∷ 0 ∷ 0 ∷ 3 ∷ 0
           ∷ 0x00 ∷ 0x3F ∷ 0xFF ∷ 0xFF ∷ 0 ∷ 0 ∷ 0 ∷ 0 ∷ 0 ∷ 0 ∷ 0 ∷ 0 ∷ [])
-          ∷ replicate 32 0 ∷ []);
+          ∷ replicate 32 0
+          ∷ (0x00 ∷ 0x00 ∷ 0x00 ∷ 0x00 ∷ 0xFF ∷ 0xFF ∷ 0xFF ∷ 0xFF ∷ 0x00 ∷ 0x3F ∷ 0xFF ∷ 0xFF ∷ 0xFF ∷ 0xFF ∷ 0xFF ∷ 0xFF ∷ 0 ∷ 0 ∷ 0 ∷ 0
+          ∷ 0x00 ∷ 0x3F ∷ 0xFF ∷ 0xFF ∷ 0 ∷ 0 ∷ 0 ∷ 0 ∷ 0 ∷ 0 ∷ 0 ∷ 0 ∷ [])
+          ∷ []);
     }
 unfolding definitions tables put records-at every-kind
 fresh-bytes = refl
 
 -- Refusal 5: "state not as long as the site", after 1 to 4; the state is unchanged. "Fresh stops after 5."
 pub fresh-lengths :
-    map (λ n. freshState every-kind (replicate n 7)) (191 ∷ 193 ∷ 0 ∷ [])
-    ≡ record { returned = StateLength; state = replicate 191 7 } ∷ record { returned = StateLength; state = replicate 193 7 }
+    map (λ n. freshState every-kind (replicate n 7)) (223 ∷ 225 ∷ 0 ∷ [])
+    ≡ record { returned = StateLength; state = replicate 223 7 } ∷ record { returned = StateLength; state = replicate 225 7 }
     ∷ record { returned = StateLength; state = [] } ∷ []
 unfolding definitions tables put records-at every-kind
 fresh-lengths = refl
@@ -150,7 +153,7 @@ largest-state =
     ∷ record-of ((5, 1, 1) ∷ (16, 4, 4194303) ∷ []) ∷ record-of []
     ∷ record-of
     ((0, 4, 4294967295) ∷ (4, 4, 4294967295) ∷ (8, 4, 8) ∷ (12, 4, 4294967295) ∷ (16, 2, 65535) ∷ (18, 1, 3) ∷ (20, 4, 2) ∷ [])
-    ∷ record-of [] ∷ [])
+    ∷ record-of [] ∷ record-of ((8, 4, 4194303) ∷ (20, 4, 4194303) ∷ []) ∷ [])
 
 unfoldable pub state-numbers : List (List Field) → List ℕ
 state-numbers changes = map (λ fs. number (checkState every-kind (with-fields fs largest-state))) changes
@@ -166,7 +169,7 @@ pub point-well :
     state-numbers
     (((36, 1, 0) ∷ []) ∷ ((36, 1, 3) ∷ []) ∷ ((37, 1, 1) ∷ []) ∷ ((37, 1, 1) ∷ (48, 4, 4194303) ∷ []) ∷ ((37, 1, 2) ∷ (48, 4, 4194303) ∷ [])
     ∷ ((37, 1, 2) ∷ []) ∷ ((48, 4, 4194303) ∷ []) ∷ ((38, 1, 1) ∷ []) ∷ ((39, 1, 1) ∷ []) ∷ ((56, 1, 1) ∷ []) ∷ ((63, 1, 1) ∷ [])
-    ∷ ((48, 4, 6) ∷ []) ∷ ((48, 4, 8) ∷ []) ∷ ((48, 4, 4194304) ∷ []) ∷ ((68, 1, 1) ∷ []) ∷ ((69, 1, 0) ∷ []) ∷ [])
+    ∷ ((48, 4, 7) ∷ []) ∷ ((48, 4, 8) ∷ []) ∷ ((48, 4, 4194304) ∷ []) ∷ ((68, 1, 1) ∷ []) ∷ ((69, 1, 0) ∷ []) ∷ [])
     ≡ 0 ∷ 6 ∷ 6 ∷ 0 ∷ 6 ∷ 6 ∷ 0 ∷ 6 ∷ 6 ∷ 6 ∷ 6 ∷ 6 ∷ 6 ∷ 6 ∷ 6 ∷ 0 ∷ []
 unfolding definitions tables put records-at every-kind largest-state state-numbers
 point-well = refl
@@ -188,7 +191,7 @@ zero-well = refl
 
 -- Refusal 6 after 5: a state cut short, whose first record is not well formed; one with a byte more.
 pub state-lengths :
-    number (checkState every-kind (take 191 (with-fields ((4, 1, 1) ∷ []) largest-state))) ∷ number (checkState every-kind (largest-state ++ (0 ∷ [])))
+    number (checkState every-kind (take 223 (with-fields ((4, 1, 1) ∷ []) largest-state))) ∷ number (checkState every-kind (largest-state ++ (0 ∷ [])))
     ∷ number (checkState (0 ∷ []) (0 ∷ [])) ∷ number (checkState [] []) ∷ []
     ≡ 5 ∷ 5 ∷ 1 ∷ 0 ∷ []
 unfolding definitions tables put records-at every-kind largest-state
