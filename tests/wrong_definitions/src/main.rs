@@ -1,12 +1,13 @@
 //! Tries wrong definitions: each definition of `crates/octets/specs` and `crates/model/specs` with one change in one place, made by rule
 //! (`rules.rs`) or by hand (the file `list`), against the computed cases of `crates/cases`. Each shall be refused by a case.
 //!
-//!     cargo run --release --offline --manifest-path tests/Cargo.toml -p wrong_definitions -- [--file NAME] [--definition NAME] [--jobs N] [--whole]
+//!     cargo run --release --offline --manifest-path tests/Cargo.toml -p wrong_definitions -- [--file NAME] [--definition NAME] [--jobs N] [--part K/N] [--whole] [--show]
 //!
-//! `--file Site` and `--definition kind` try a part. Changes that say the same are in the file `equal`, each with the reason why no input tells
+//! `--file Site` and `--definition kind` try a part, `--part 2/3` the second of each three. Changes that say the same are in the file `equal`, each with the reason why no input tells
 //! the two apart; they are left out. A change is tried in a working copy under `target/wrong_definitions` by `rt dev`, which goes over what the
 //! change reaches; with `--whole` by `rt check`, from nothing known. A change that the definitions
-//! themselves do not take (a name or a type that does not fit) is counted apart. Exit status 1 if one was accepted.
+//! themselves do not take (a name or a type that does not fit) is counted apart. Exit status 1 if one was accepted. `--show` prints the wrong
+//! definitions and tries none.
 
 #![forbid(unsafe_code)]
 
@@ -39,11 +40,29 @@ struct Wrong {
     text: String,
 }
 
+impl std::fmt::Display for Wrong {
+    fn fmt(&self, f: &mut std::fmt::Formatter) -> std::fmt::Result {
+        let Wrong {
+            file,
+            definition,
+            old,
+            new,
+            ..
+        } = self;
+        writeln!(
+            f,
+            "file: {file}\ndefinition: {definition}\nold: {old}\nnew: {new}"
+        )
+    }
+}
+
 struct Options {
     file: Option<String>,
     definition: Option<String>,
     jobs: usize,
+    part: (usize, usize),
     whole: bool,
+    show: bool,
 }
 
 fn options() -> Result<Options, String> {
@@ -51,7 +70,9 @@ fn options() -> Result<Options, String> {
         file: None,
         definition: None,
         jobs: 2,
+        part: (1, 1),
         whole: false,
+        show: false,
     };
     let mut words = std::env::args().skip(1);
     while let Some(word) = words.next() {
@@ -60,11 +81,22 @@ fn options() -> Result<Options, String> {
             "--file" => options.file = Some(value()?),
             "--definition" => options.definition = Some(value()?),
             "--jobs" => options.jobs = value()?.parse().map_err(|e| format!("--jobs: {e}"))?,
+            "--part" => options.part = part(&value()?)?,
             "--whole" => options.whole = true,
+            "--show" => options.show = true,
             _ => return Err(format!("not an option: {word}")),
         }
     }
     Ok(options)
+}
+
+fn part(text: &str) -> Result<(usize, usize), String> {
+    let numbers = text
+        .split_once('/')
+        .and_then(|(k, n)| Some((k.parse().ok()?, n.parse().ok()?)));
+    numbers
+        .filter(|(k, n)| (1..=*n).contains(k))
+        .ok_or(format!("--part: not K/N: {text}"))
 }
 
 fn read(path: &Path) -> Result<String, String> {
@@ -258,10 +290,7 @@ impl Shared {
             refusing.insert(w.file.clone(), module);
         }
         if outcome.verdict != Verdict::Refused {
-            println!(
-                "{:?}\nfile: {}\ndefinition: {}\nold: {}\nnew: {}\n",
-                outcome.verdict, w.file, w.definition, w.old, w.new
-            );
+            println!("{:?}\n{w}", outcome.verdict);
         }
         Ok(outcome.verdict)
     }
@@ -336,11 +365,17 @@ fn run() -> Result<ExitCode, String> {
     let equal = edits::read(&read(&package.join("equal"))?)?;
     let mut wrong = without_equal(all, &files, &equal)?;
     wrong.retain(|w| selected(w, &o));
+    let (k, n) = o.part;
+    let wrong: Vec<Wrong> = wrong.into_iter().skip(k - 1).step_by(n).collect();
     eprintln!(
         "{} wrong definitions, {} equal ones left out",
         wrong.len(),
         equal.len()
     );
+    if o.show {
+        wrong.iter().for_each(|w| println!("{w}"));
+        return Ok(ExitCode::SUCCESS);
+    }
     let verdicts = tried(&wrong, &files, &names, &repository, &o)?;
     Ok(report(&wrong, &verdicts, &files, &o))
 }
