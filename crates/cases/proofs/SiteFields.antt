@@ -57,18 +57,19 @@ largest-rule = record-of ((0, 1, 3) ∷ (1, 1, 15) ∷ (3, 1, 127) ∷ (4, 4, 41
 
 pub rule-fields :
     changed-numbers [] largest-rule
-    ([] ∷ ((0, 1, 0) ∷ []) ∷ ((1, 1, 16) ∷ []) ∷ ((3, 1, 128) ∷ []) ∷ ((4, 4, 4194303) ∷ []) ∷ ((12, 2, 1439) ∷ []) ∷ ((14, 2, 1439) ∷ [])
+    ([] ∷ ((0, 1, 0) ∷ []) ∷ ((1, 1, 24) ∷ []) ∷ ((3, 1, 128) ∷ []) ∷ ((4, 4, 4194303) ∷ []) ∷ ((12, 2, 1439) ∷ []) ∷ ((14, 2, 1439) ∷ [])
     ∷ ((14, 2, 1441) ∷ []) ∷ ((12, 2, 0) ∷ (14, 2, 0) ∷ []) ∷ ((2, 1, 1) ∷ []) ∷ ((8, 4, 8) ∷ []) ∷ ((16, 1, 1) ∷ []) ∷ ((31, 1, 1) ∷ []) ∷ [])
     ≡ 0 ∷ 2 ∷ 2 ∷ 2 ∷ 2 ∷ 0 ∷ 2 ∷ 2 ∷ 0 ∷ 2 ∷ 2 ∷ 2 ∷ 2 ∷ []
 unfolding definitions tables put largest-rule
 rule-fields = refl
 
--- Not everywhere: zone 8 and point 4,194,302 are there.
+-- Not everywhere: zone 8 and point 4,194,302 are there. Last, a spare flag.
 pub rule-locations :
     changed-numbers (largest-point ∷ two-zones) largest-rule
     (((1, 1, 7) ∷ (2, 1, 1) ∷ (8, 4, 8) ∷ []) ∷ ((1, 1, 7) ∷ (2, 1, 2) ∷ (8, 4, 4194302) ∷ []) ∷ ((1, 1, 7) ∷ (2, 1, 0) ∷ (8, 4, 8) ∷ [])
-    ∷ ((1, 1, 7) ∷ (2, 1, 3) ∷ (8, 4, 8) ∷ []) ∷ ((1, 1, 7) ∷ (2, 1, 1) ∷ (8, 4, 4194303) ∷ []) ∷ [])
-    ≡ 0 ∷ 0 ∷ 2 ∷ 2 ∷ 2 ∷ []
+    ∷ ((1, 1, 7) ∷ (2, 1, 3) ∷ (8, 4, 8) ∷ []) ∷ ((1, 1, 7) ∷ (2, 1, 1) ∷ (8, 4, 4194303) ∷ [])
+    ∷ ((1, 1, 16) ∷ (2, 1, 1) ∷ (8, 4, 8) ∷ []) ∷ [])
+    ≡ 0 ∷ 0 ∷ 2 ∷ 2 ∷ 2 ∷ 2 ∷ []
 unfolding definitions tables put largest-point two-zones largest-rule
 rule-locations = refl
 
