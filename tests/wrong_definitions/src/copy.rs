@@ -84,12 +84,7 @@ impl WorkingCopy {
     }
 
     /// What becomes of a file (as `model/specs/Site.antt`) made `text`; the file is put back. The cases of the module `first` are tried before all.
-    pub fn outcome(
-        &self,
-        file: &str,
-        text: &str,
-        first: Option<&String>,
-    ) -> Result<Outcome, String> {
+    pub fn outcome(&self, file: &str, text: &str, first: &str) -> Result<Outcome, String> {
         let path = self.root.join("crates").join(file);
         let before = fs::read_to_string(&path).or_else(|e| failed(&path, e))?;
         write(&path, text)?;
@@ -98,10 +93,9 @@ impl WorkingCopy {
         outcome
     }
 
-    fn tried(&self, first: Option<&String>) -> Result<Outcome, String> {
-        let first = first.filter(|name| self.cases.contains_key(*name) && !self.whole);
-        if let Some(name) = first {
-            let outcome = self.check(&self.needed(name))?;
+    fn tried(&self, first: &str) -> Result<Outcome, String> {
+        if self.cases.contains_key(first) && !self.whole {
+            let outcome = self.check(&self.needed(first))?;
             if outcome.verdict != Verdict::Accepted {
                 return Ok(outcome);
             }
