@@ -12,7 +12,7 @@
 //!
 //! A change is tried in a working copy under `target/wrong_definitions` by `rt dev`, which goes over what the change reaches. One that the
 //! definitions themselves do not take (a name or a type that does not fit) is counted apart. Changes that say the same are in the file `equal`,
-//! each with the reason why no input tells the two apart; they are left out. Exit status 1 if one was accepted.
+//! each with the reason why no input tells the two apart; they are left out. Exit status 1 if one was not refused.
 
 #![forbid(unsafe_code)]
 
@@ -94,7 +94,7 @@ fn report(wrong: &[Wrong], verdicts: &[Verdict], files: &[File], o: &Options) ->
         count(Verdict::NotEnded),
         count(Verdict::NotTyped)
     );
-    ExitCode::from(u8::from(count(Verdict::Accepted) > 0))
+    ExitCode::from(u8::from(count(Verdict::Refused) < tried))
 }
 
 fn run() -> Result<ExitCode, String> {
