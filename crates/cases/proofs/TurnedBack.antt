@@ -4,7 +4,7 @@ use mathlib.Core.Path.{_≡_, refl}
 use mathlib.Core.List.{List, [], _∷_, map, flatten}
 use lib.ListN.{replicate}
 use Rattle.octets.specs.Octets.{put}
-use Rattle.model.specs.Calls.{RunResult, number, runReturned, runJournal}
+use Rattle.model.specs.Calls.{number, runResult, runReturned, runJournal}
 use Rattle.model.specs.declared.Returned.the-variants.{WorkedThrough, SiteLength, SiteField, SiteTwice, SiteMissing, StateLength, StateForm, JournalLength, AnswersLength}
 use Rattle.model.proofs.Open.{definitions}
 use Rattle.cases.proofs.Records.{record-of, entry-of, tables}
@@ -16,6 +16,10 @@ pub returned-numbers :
     (WorkedThrough ∷ SiteLength ∷ SiteField ∷ SiteTwice ∷ SiteMissing ∷ StateLength ∷ StateForm ∷ JournalLength ∷ AnswersLength ∷ [])
     ≡ 0 ∷ 1 ∷ 2 ∷ 3 ∷ 4 ∷ 5 ∷ 6 ∷ 10 ∷ 11 ∷ []
 returned-numbers = refl
+
+-- "The entire result and the later contents of state and answers", each in its place.
+pub result-parts : runResult StateForm (1 ∷ []) (2 ∷ []) ≡ record { returned = StateForm; state = 1 ∷ []; answers = 2 ∷ [] }
+result-parts = refl
 
 -- A run of zone 8: each buffer has every fault after the one that is named, and is unchanged.
 unfoldable pub turned : List (List ℕ) → List ℕ → List ℕ → List ℕ → List (List ℕ)
