@@ -43,9 +43,9 @@ pub turned-back-lines :
 unfolding definitions tables put records-at
 turned-back-lines = refl
 
--- "in decimal": 0, 9, 10, 11, which is returned by no printed run, and 20.
+-- "in decimal": 0, 9, 10, 11 and 19, of which a printed run returns 10 alone.
 pub decimal-lines :
-    map decimalLine (0 ∷ 9 ∷ 10 ∷ 11 ∷ 20 ∷ []) ≡ (48 ∷ 10 ∷ []) ∷ (57 ∷ 10 ∷ []) ∷ (49 ∷ 48 ∷ 10 ∷ []) ∷ (49 ∷ 49 ∷ 10 ∷ []) ∷ (50 ∷ 48 ∷ 10 ∷ []) ∷ []
+    map decimalLine (0 ∷ 9 ∷ 10 ∷ 11 ∷ 19 ∷ []) ≡ (48 ∷ 10 ∷ []) ∷ (57 ∷ 10 ∷ []) ∷ (49 ∷ 48 ∷ 10 ∷ []) ∷ (49 ∷ 49 ∷ 10 ∷ []) ∷ (49 ∷ 57 ∷ 10 ∷ []) ∷ []
 unfolding definitions
 decimal-lines = refl
 

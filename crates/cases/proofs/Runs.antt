@@ -9,18 +9,18 @@ use Rattle.model.specs.Calls.{number}
 use Rattle.model.specs.Lists.{Run, Worked, History, withAnswers, answersIn, returns, begun, ended, worked, firstOf, eventIn, refusalIn, credentialIn}
 use Rattle.model.proofs.Open.{definitions}
 use Rattle.cases.proofs.Records.{record-of, entry-of, tables}
-use Rattle.cases.proofs.SiteCheck.{zone-at, records-at}
+use Rattle.cases.proofs.SiteCheck.{zone-at, point-at, records-at}
 use Rattle.cases.proofs.Lookups.{offsets}
 
--- Zone 8 set to 5; a journal of a byte; answers of a byte too few; then the zone adjusted by 2 and one that is not there.
-unfoldable pub set-eight : List ℕ
-set-eight = entry-of ((0, 1, 2) ∷ (8, 4, 8) ∷ (12, 4, 5) ∷ [])
+-- Zone 8 adjusted by 5; a journal of a byte; answers of a byte too many; then the zone adjusted by 2, and one that is not there.
+unfoldable pub five-more : List ℕ
+five-more = entry-of ((0, 1, 3) ∷ (8, 4, 8) ∷ (12, 4, 5) ∷ [])
 
-unfoldable pub adjust-eight : List ℕ
-adjust-eight = entry-of ((0, 1, 3) ∷ (8, 4, 8) ∷ (12, 4, 2) ∷ [])
+unfoldable pub two-more : List ℕ
+two-more = entry-of ((0, 1, 3) ∷ (8, 4, 8) ∷ (12, 4, 2) ∷ [])
 
-unfoldable pub adjust-nine : List ℕ
-adjust-nine = entry-of ((0, 1, 3) ∷ (8, 4, 9) ∷ (12, 4, 2) ∷ [])
+unfoldable pub two-elsewhere : List ℕ
+two-elsewhere = entry-of ((0, 1, 3) ∷ (8, 4, 9) ∷ (12, 4, 2) ∷ [])
 
 unfoldable pub four-runs : History
 unfolding definitions tables put records-at
@@ -30,18 +30,29 @@ four-runs =
       buffer = replicate 32 9;
       accepted = refl;
       runs =
-          record { journal = set-eight; answers = replicate 16 9 } ∷ record { journal = 9 ∷ []; answers = [] }
-          ∷ record { journal = set-eight; answers = replicate 15 9 }
-          ∷ record { journal = adjust-eight ++ adjust-nine; answers = replicate 32 9 } ∷ [];
+          record { journal = five-more; answers = replicate 16 9 } ∷ record { journal = 9 ∷ []; answers = [] }
+          ∷ record { journal = five-more; answers = replicate 17 9 }
+          ∷ record { journal = two-more ++ two-elsewhere; answers = replicate 32 9 } ∷ [];
     }
 
 unfoldable pub runs-open : Unit {0}
-unfolding set-eight adjust-eight adjust-nine four-runs
+unfolding five-more two-more two-elsewhere four-runs
 runs-open = tt
 
 pub four-returns : map number (returns (four-runs .site) (begun four-runs) (four-runs .runs)) ≡ 0 ∷ 10 ∷ 11 ∷ 0 ∷ []
 unfolding definitions tables put records-at runs-open
 four-returns = refl
+
+-- Each "on the state that the last one left": a state that would pass for a site of zone 0 and point 0, at which a card that is not known is a
+-- failure. The site has neither; nothing is written and both journals are worked through.
+pub state-no-site :
+    map number
+    (returns (zone-at 8 ++ point-at 2 4194303 4194303)
+    (record-of ((0, 1, 1) ∷ []) ++ record-of ((0, 4, 0x02000101) ∷ (12, 4, 4194303) ∷ (16, 4, 4194303) ∷ []))
+    (record { journal = entry-of ((0, 1, 1) ∷ (1, 1, 2) ∷ []); answers = replicate 16 9 } ∷ record { journal = []; answers = [] } ∷ []))
+    ≡ 0 ∷ 0 ∷ []
+unfolding definitions tables put records-at
+state-no-site = refl
 
 -- From fresh, 0, to 7.
 pub four-states : begun four-runs ∷ ended four-runs ∷ [] ≡ replicate 32 0 ∷ (0 ∷ 0 ∷ 0 ∷ 7 ∷ replicate 28 0) ∷ []
@@ -50,9 +61,9 @@ four-states = refl
 
 pub four-worked :
     worked four-runs
-    ≡ record { entry = set-eight; answer = 0 ∷ 0 ∷ 0 ∷ 0 ∷ 0 ∷ 0 ∷ 0 ∷ 0 ∷ 0x00 ∷ 0x3F ∷ 0xFF ∷ 0xFF ∷ 0 ∷ 0 ∷ 0 ∷ 5 ∷ [] }
-    ∷ record { entry = adjust-eight; answer = 0 ∷ 0 ∷ 0 ∷ 0 ∷ 0 ∷ 0 ∷ 0 ∷ 0 ∷ 0x00 ∷ 0x3F ∷ 0xFF ∷ 0xFF ∷ 0 ∷ 0 ∷ 0 ∷ 7 ∷ [] }
-    ∷ record { entry = adjust-nine; answer = 0 ∷ 0 ∷ 0 ∷ 8 ∷ 0 ∷ 0 ∷ 0 ∷ 0 ∷ 0x00 ∷ 0x3F ∷ 0xFF ∷ 0xFF ∷ 0 ∷ 0 ∷ 0 ∷ 0 ∷ [] } ∷ []
+    ≡ record { entry = five-more; answer = 0 ∷ 0 ∷ 0 ∷ 0 ∷ 0 ∷ 0 ∷ 0 ∷ 0 ∷ 0x00 ∷ 0x3F ∷ 0xFF ∷ 0xFF ∷ 0 ∷ 0 ∷ 0 ∷ 5 ∷ [] }
+    ∷ record { entry = two-more; answer = 0 ∷ 0 ∷ 0 ∷ 0 ∷ 0 ∷ 0 ∷ 0 ∷ 0 ∷ 0x00 ∷ 0x3F ∷ 0xFF ∷ 0xFF ∷ 0 ∷ 0 ∷ 0 ∷ 7 ∷ [] }
+    ∷ record { entry = two-elsewhere; answer = 0 ∷ 0 ∷ 0 ∷ 8 ∷ 0 ∷ 0 ∷ 0 ∷ 0 ∷ 0x00 ∷ 0x3F ∷ 0xFF ∷ 0xFF ∷ 0 ∷ 0 ∷ 0 ∷ 0 ∷ [] } ∷ []
 unfolding definitions tables put records-at runs-open
 four-worked = refl
 
