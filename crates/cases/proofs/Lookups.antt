@@ -2,7 +2,7 @@
 -- And the fields of site records by their offsets, of a record whose every byte is its offset.
 use Prim.Native.Nat.{ℕ}
 use mathlib.Core.Path.{_≡_, refl}
-use mathlib.Core.List.{List, [], _∷_, _++_, map, flatten}
+use mathlib.Core.List.{List, [], _∷_, _++_, map}
 use mathlib.Core.Bool.{Bool, true, false}
 use lib.ListN.{take}
 use Rattle.octets.specs.Octets.{put}

@@ -1,8 +1,7 @@
 -- "Numbers are big-endian, unsigned unless noted; offsets in bytes."
-use Prim.Native.Nat.{ℕ}
 use mathlib.Core.Path.{_≡_, refl}
-use mathlib.Core.List.{List, [], _∷_, map}
-use mathlib.Core.Bool.{Bool, true, false}
+use mathlib.Core.List.{[], _∷_}
+use mathlib.Core.Bool.{true, false}
 use lib.Dec.{ltb}
 use Rattle.octets.specs.Octets.{field, digits, put, groups, withPart, same}
 use Rattle.model.specs.Words.{keep, any, all}

@@ -3,10 +3,10 @@
 use Prim.Native.Nat.{ℕ}
 use mathlib.Core.Path.{_≡_, refl}
 use mathlib.Core.List.{List, [], _∷_, _++_, map}
-use mathlib.Core.Bool.{Bool, true, false}
+use mathlib.Core.Bool.{true, false}
 use lib.ListN.{replicate}
 use Rattle.octets.specs.Octets.{put}
-use Rattle.model.specs.State.{Panel, panel, sites, stateOf, find, seek, seekZone, seekCredential, store, write}
+use Rattle.model.specs.State.{Panel, panel, sites, stateOf, find, seek, seekZone, seekCredential, write}
 use Rattle.model.proofs.Open.{definitions}
 use Rattle.cases.proofs.Records.{tables}
 use Rattle.cases.proofs.SiteCheck.{zone-at, credential-at, records-at}

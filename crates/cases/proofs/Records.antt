@@ -1,4 +1,4 @@
--- Records, entries and their runs by the offsets of document 01, and how a table of them is tried.
+-- Records and entries by the offsets of document 01, and the site check over a table of them.
 use Prim.Native.Nat.{ℕ}
 use mathlib.Core.List.{List, [], _∷_, _++_, map, flatten}
 use lib.ListN.{replicate}

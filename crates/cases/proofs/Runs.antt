@@ -2,11 +2,11 @@
 -- journals worked through, in turn; a journal turned back adds nothing."
 use Prim.Native.Nat.{ℕ}
 use mathlib.Core.Path.{_≡_, refl}
-use mathlib.Core.List.{List, [], _∷_, _++_, map, flatten}
+use mathlib.Core.List.{List, [], _∷_, _++_, map}
 use lib.ListN.{replicate}
 use Rattle.octets.specs.Octets.{put}
 use Rattle.model.specs.Calls.{number}
-use Rattle.model.specs.Lists.{Run, Worked, History, withAnswers, answersIn, returns, begun, ended, worked, firstOf, eventIn, refusalIn, credentialIn}
+use Rattle.model.specs.Lists.{History, withAnswers, answersIn, returns, begun, ended, worked, firstOf, eventIn, refusalIn, credentialIn}
 use Rattle.model.proofs.Open.{definitions}
 use Rattle.cases.proofs.Records.{record-of, entry-of, tables}
 use Rattle.cases.proofs.SiteCheck.{zone-at, point-at, records-at}
@@ -43,8 +43,8 @@ pub four-returns : map number (returns (four-runs .site) (begun four-runs) (four
 unfolding definitions tables put records-at runs-open
 four-returns = refl
 
--- Each "on the state that the last one left": a state that would pass for a site of zone 0 and point 0, at which a card that is not known is a
--- failure. The site has neither; nothing is written and both journals are worked through.
+-- A state whose bytes would pass for a site of zone 0 and point 0, at which a card that is not known is a failure. The site has neither: the entry
+-- is refused, and both journals are worked through.
 pub state-no-site :
     map number
     (returns (zone-at 8 ++ point-at 2 4194303 4194303)

@@ -5,7 +5,6 @@ use mathlib.Core.Path.{_≡_, refl}
 use mathlib.Core.List.{List, [], _∷_}
 use Rattle.octets.specs.Octets.{put}
 use Rattle.model.proofs.Open.{definitions}
-use Rattle.cases.proofs.Change.{Field}
 use Rattle.cases.proofs.Records.{record-of, changed-numbers, tables}
 
 -- "Kind 1, zone. Flag 0 counting. 2: passback 0 off, 1 hard, 2 soft. 8 upper limit, 12 lower limit, 16 passback timeout in minutes, 4 bytes

@@ -2,8 +2,8 @@
 use Prim.Native.Nat.{ℕ}
 use mathlib.Core.Path.{_≡_, refl}
 use mathlib.Core.List.{List, [], _∷_, _++_, map, flatten}
-use mathlib.Core.Bool.{Bool, true, false}
-use lib.ListN.{length, take, replicate}
+use mathlib.Core.Bool.{true, false}
+use lib.ListN.{take, replicate}
 use Rattle.octets.specs.Octets.{put}
 use Rattle.model.specs.State.{count, zoneBytes, pointStateOf, pointBytes, credentialStateOf, credentialBytes}
 use Rattle.model.specs.Calls.{number, freshState, checkState}
