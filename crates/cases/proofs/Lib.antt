@@ -1,3 +1,14 @@
 pub mod Change
 pub mod Unearned
 pub mod Tallies
+pub mod Records
+pub mod Octets
+pub mod SiteFields
+pub mod SiteCheck
+pub mod Lookups
+pub mod States
+pub mod Panels
+pub mod Entries
+pub mod TurnedBack
+pub mod Runs
+pub mod Printed

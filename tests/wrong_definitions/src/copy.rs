@@ -1,6 +1,7 @@
 //! A working copy: the crate `octets` with its definitions alone, and a crate `model` with the definitions and, as its proofs, the cases. They
-//! stand in one crate so that one check, which goes over what a change reaches, tries it.
+//! stand in one crate so that one check, which goes over what a change reaches, tries it. A copy for statements has the theorems' proofs too.
 
+use std::collections::{BTreeMap, BTreeSet};
 use std::fs;
 use std::os::unix::process::CommandExt;
 use std::path::{Path, PathBuf};
@@ -19,11 +20,26 @@ pub enum Verdict {
 /// The modules of the model's proofs that the cases rest on, and those that are cases themselves.
 const BASE: [&str; 3] = ["Open", "Build", "Parts"];
 const COMPUTED: [&str; 3] = ["Cases", "Applied", "Premises"];
-const LIMIT: Duration = Duration::from_secs(180);
 
+/// What a copy has as proofs: cases alone, or the theorems' proofs too.
+#[derive(Clone, Copy, PartialEq, Eq)]
+pub enum Proofs {
+    Cases,
+    Theorems,
+}
+
+const LIMIT: Duration = Duration::from_secs(120);
+
+/// The same, with the module of the case that refused it.
+pub struct Outcome {
+    pub verdict: Verdict,
+    pub module: Option<String>,
+}
+
+/// The cases are kept by module.
 pub struct WorkingCopy {
     root: PathBuf,
-    cases: Vec<String>,
+    cases: BTreeMap<String, String>,
     whole: bool,
 }
 
@@ -40,40 +56,49 @@ fn write(path: &Path, text: &str) -> Result<(), String> {
 fn copy_dir(from: &Path, to: &Path) -> Result<(), String> {
     for entry in fs::read_dir(from).or_else(|e| failed(from, e))? {
         let path = entry.or_else(|e| failed(from, e))?.path();
+        let copied = to.join(path.file_name().unwrap_or_default());
+        if path.is_dir() {
+            copy_dir(&path, &copied)?;
+            continue;
+        }
         let text = fs::read_to_string(&path).or_else(|e| failed(&path, e))?;
-        write(&to.join(path.file_name().unwrap_or_default()), &text)?;
+        write(&copied, &text)?;
     }
     Ok(())
 }
 
 impl WorkingCopy {
     /// Made anew at `root` from the repository. `whole`: each change is tried by `rt check`, from nothing known.
-    pub fn new(repository: &Path, root: &Path, whole: bool) -> Result<WorkingCopy, String> {
+    pub fn new(
+        repository: &Path,
+        root: &Path,
+        proofs: Proofs,
+        whole: bool,
+    ) -> Result<WorkingCopy, String> {
         if root.exists() {
             fs::remove_dir_all(root).or_else(|e| failed(root, e))?;
         }
         let from = |path: &str| repository.join("crates").join(path);
         let to = |path: &str| root.join("crates").join(path);
         write(&root.join("crates.txt"), "octets:\nmodel: octets\n")?;
-        write(&to("octets/src/lib.rt"), "// Definitions alone.\n")?;
         for dir in ["octets/specs", "model/src", "model/specs"] {
             copy_dir(&from(dir), &to(dir))?;
         }
-        let read = |path: &Path| fs::read_to_string(path).or_else(|e| failed(path, e));
-        let mut list = String::new();
-        for name in BASE.iter().chain(&COMPUTED) {
+        if proofs == Proofs::Theorems {
+            copy_dir(&from("octets/src"), &to("octets/src"))?;
+            copy_dir(&from("octets/proofs"), &to("octets/proofs"))?;
+        } else {
+            write(&to("octets/src/lib.rt"), "// Definitions alone.\n")?;
+        }
+        for name in BASE {
             let file = format!("model/proofs/{name}.antt");
             write(&to(&file), &read(&from(&file))?)?;
-            list += &format!("pub mod {name}\n");
         }
-        let mut cases: Vec<String> = case_names(&read(&from("cases/proofs/Lib.antt"))?);
-        for name in &cases {
-            let text = read(&from(&format!("cases/proofs/{name}.antt")))?;
-            write(&to(&format!("model/proofs/{name}.antt")), &in_model(&text))?;
-            list += &format!("pub mod {name}\n");
-        }
-        cases.extend(COMPUTED.map(str::to_string));
-        write(&to("model/proofs/Lib.antt"), &list)?;
+        let mut cases = modules(&from("cases/proofs"), &|_| true)?;
+        cases.extend(modules(&from("model/proofs"), &|name| {
+            let computed = COMPUTED.contains(&name) || proofs == Proofs::Theorems;
+            computed && !BASE.contains(&name)
+        })?);
         Ok(WorkingCopy {
             root: root.to_path_buf(),
             cases,
@@ -81,25 +106,87 @@ impl WorkingCopy {
         })
     }
 
-    /// The verdict on a file (as `model/specs/Site.antt`) made `text`; the file is put back.
-    pub fn verdict(&self, file: &str, text: &str) -> Result<Verdict, String> {
+    /// What becomes of a file (as `model/specs/Site.antt`) made `text`; the file is put back. The cases of the module `first` are tried before all.
+    pub fn outcome(&self, file: &str, text: &str, first: &str) -> Result<Outcome, String> {
         let path = self.root.join("crates").join(file);
         let before = fs::read_to_string(&path).or_else(|e| failed(&path, e))?;
         write(&path, text)?;
-        let verdict = self.check();
+        let outcome = self.tried(first);
         write(&path, &before)?;
-        verdict
+        outcome
     }
 
-    /// The verdict on the copy as it stands.
-    pub fn check(&self) -> Result<Verdict, String> {
-        self.run(if self.whole { "check" } else { "dev" })
+    fn tried(&self, first: &str) -> Result<Outcome, String> {
+        if self.cases.contains_key(first) && !self.whole {
+            let outcome = self.check(&self.needed(first))?;
+            if outcome.verdict != Verdict::Accepted {
+                return Ok(outcome);
+            }
+        }
+        self.check_all()
     }
 
-    fn run(&self, verb: &str) -> Result<Verdict, String> {
+    /// What becomes of the copy as it stands.
+    pub fn check_all(&self) -> Result<Outcome, String> {
+        self.check(&self.cases.keys().cloned().collect())
+    }
+
+    /// A module of cases and those that it uses.
+    fn needed(&self, name: &str) -> BTreeSet<String> {
+        let mut found = BTreeSet::from([name.to_string()]);
+        let mut todo = vec![name.to_string()];
+        while let Some(module) = todo.pop() {
+            let uses =
+                |other: &str| self.cases[&module].contains(&format!("·proofs.proofs.{other}."));
+            for other in self.cases.keys().filter(|other| uses(other)) {
+                if found.insert(other.clone()) {
+                    todo.push(other.clone());
+                }
+            }
+        }
+        found
+    }
+
+    /// The check of the definitions with some modules of cases.
+    fn check(&self, modules: &BTreeSet<String>) -> Result<Outcome, String> {
+        let proofs = self.root.join("crates/model/proofs");
+        let mut list: String = BASE
+            .iter()
+            .map(|name| format!("pub mod {name}\n"))
+            .collect();
+        for (name, text) in &self.cases {
+            let path = proofs.join(format!("{name}.antt"));
+            if modules.contains(name) {
+                list += &format!("pub mod {name}\n");
+                write(&path, text)?;
+            } else if path.exists() {
+                fs::remove_file(&path).or_else(|e| failed(&path, e))?;
+            }
+        }
+        write(&proofs.join("Lib.antt"), &list)?;
         let log = self.root.join("log");
-        let out = fs::File::create(&log).or_else(|e| failed(&log, e))?;
-        let err = out.try_clone().or_else(|e| failed(&log, e))?;
+        let Some(proved) = self.run(&log)? else {
+            return Ok(Outcome {
+                verdict: Verdict::NotEnded,
+                module: None,
+            });
+        };
+        let said = fs::read_to_string(&log).or_else(|e| failed(&log, e))?;
+        Ok(if proved {
+            Outcome {
+                verdict: Verdict::Accepted,
+                module: None,
+            }
+        } else {
+            self.judged(&said)
+        })
+    }
+
+    /// Whether the check proves all; nothing if it does not end in time.
+    fn run(&self, log: &Path) -> Result<Option<bool>, String> {
+        let verb = if self.whole { "check" } else { "dev" };
+        let out = fs::File::create(log).or_else(|e| failed(log, e))?;
+        let err = out.try_clone().or_else(|e| failed(log, e))?;
         let mut shell = Command::new("sh");
         shell.args(["-c", &format!("ulimit -d 6000000; exec rt {verb} model")]);
         shell
@@ -110,49 +197,59 @@ impl WorkingCopy {
             .process_group(0);
         let mut child = shell.spawn().or_else(|e| failed(Path::new("rt"), e))?;
         let start = Instant::now();
-        let status = loop {
+        while start.elapsed() < LIMIT {
             if let Some(status) = child.try_wait().or_else(|e| failed(Path::new("rt"), e))? {
-                break status;
-            }
-            if start.elapsed() > LIMIT {
-                let group = format!("-{}", child.id());
-                Command::new("kill")
-                    .args(["--", &group])
-                    .status()
-                    .or_else(|e| failed(Path::new("kill"), e))?;
-                child.wait().or_else(|e| failed(Path::new("rt"), e))?;
-                return Ok(Verdict::NotEnded);
+                return Ok(Some(status.success()));
             }
             std::thread::sleep(Duration::from_millis(20));
-        };
-        let said = fs::read_to_string(&log).or_else(|e| failed(&log, e))?;
-        Ok(if status.success() {
-            Verdict::Accepted
-        } else {
-            self.judged(&said)
-        })
+        }
+        let group = format!("-{}", child.id());
+        Command::new("kill")
+            .args(["--", &group])
+            .status()
+            .or_else(|e| failed(Path::new("kill"), e))?;
+        child.wait().or_else(|e| failed(Path::new("rt"), e))?;
+        Ok(None)
     }
 
-    /// A failed check refuses the change where the error is in a case.
-    fn judged(&self, said: &str) -> Verdict {
-        let in_case = |line: &str| {
+    /// A failed check refuses the change where the error is in a case or, in a copy that has them, in a theorem's proof.
+    fn judged(&self, said: &str) -> Outcome {
+        let in_line = |line: &str| {
             self.cases
-                .iter()
-                .any(|c| line.contains(&format!("/model/proofs/{c}.antt:")))
+                .keys()
+                .find(|c| line.contains(&format!("/model/proofs/{c}.antt:")))
+                .cloned()
         };
-        let refused = said.lines().any(|l| l.contains(": error: ") && in_case(l));
-        if refused {
+        let module = said
+            .lines()
+            .filter(|l| l.contains(": error: "))
+            .find_map(in_line);
+        let verdict = if module.is_some() {
             Verdict::Refused
         } else {
             Verdict::NotTyped
-        }
+        };
+        Outcome { verdict, module }
     }
 }
 
-fn case_names(list: &str) -> Vec<String> {
-    list.lines()
-        .filter_map(|l| l.strip_prefix("pub mod "))
-        .map(str::to_string)
+fn read(path: &Path) -> Result<String, String> {
+    fs::read_to_string(path).or_else(|e| failed(path, e))
+}
+
+/// The modules of a directory of proofs that pass a test, with the names that modules have within the crate `model`.
+fn modules(
+    directory: &Path,
+    test: &dyn Fn(&str) -> bool,
+) -> Result<BTreeMap<String, String>, String> {
+    let list = read(&directory.join("Lib.antt"))?;
+    let names = list.lines().filter_map(|l| l.strip_prefix("pub mod "));
+    names
+        .filter(|name| test(name))
+        .map(|name| {
+            let text = read(&directory.join(format!("{name}.antt")))?;
+            Ok((name.to_string(), in_model(&text)))
+        })
         .collect()
 }
 

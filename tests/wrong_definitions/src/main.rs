@@ -1,12 +1,19 @@
 //! Tries wrong definitions: each definition of `crates/octets/specs` and `crates/model/specs` with one change in one place, made by rule
-//! (`rules.rs`) or by hand (the file `list`), against the computed cases of `crates/cases`. Each shall be refused by a case.
+//! (`rules.rs`) or by hand (the file `list`), against the computed cases of `crates/cases` and `crates/model/proofs`. Each shall be refused by a
+//! case; those of what the theorems state (`Part`, `Earned`, `Demands`) by a case or by a theorem's proof.
 //!
-//!     cargo run --release --offline --manifest-path tests/Cargo.toml -p wrong_definitions -- [--file NAME] [--definition NAME] [--jobs N] [--whole]
+//!     cargo run --release --offline --manifest-path tests/Cargo.toml -p wrong_definitions -- [OPTIONS]
 //!
-//! `--file Site` and `--definition kind` try a part. Changes that say the same are in the file `equal`, each with the reason why no input tells
-//! the two apart; they are left out. A change is tried in a working copy under `target/wrong_definitions` by `rt dev`, which goes over what the
-//! change reaches; with `--whole` by `rt check`, from nothing known. A change that the definitions
-//! themselves do not take (a name or a type that does not fit) is counted apart. Exit status 1 if one was accepted.
+//!     --file Site          those of one file
+//!     --definition kind    those of one definition
+//!     --part 2/3           the second of each three
+//!     --jobs 2             working copies at once
+//!     --whole              each by `rt check`, from nothing known
+//!     --show               print them and try none
+//!
+//! A change is tried in a working copy under `target/wrong_definitions` by `rt dev`, which goes over what the change reaches. One that the
+//! definitions themselves do not take (a name or a type that does not fit) is counted apart. Changes that say the same are in the file `equal`,
+//! each with the reason why no input tells the two apart; they are left out. Exit status 1 if one was not refused.
 
 #![forbid(unsafe_code)]
 
@@ -15,56 +22,22 @@ mod definitions;
 mod edits;
 mod imports;
 mod names;
+mod options;
 mod rules;
 mod tokens;
+mod trial;
+mod wrong;
 
-use copy::{Verdict, WorkingCopy};
-use definitions::{Definition, File};
-use edits::Edit;
+use copy::Verdict;
+use definitions::File;
 use names::Names;
+use options::Options;
 use std::collections::BTreeSet;
 use std::fs;
 use std::path::{Path, PathBuf};
 use std::process::ExitCode;
-use std::sync::Mutex;
-use tokens::plain;
-
-/// A wrong definition: what is shown of it, and its file's text.
-struct Wrong {
-    file: String,
-    definition: String,
-    old: String,
-    new: String,
-    text: String,
-}
-
-struct Options {
-    file: Option<String>,
-    definition: Option<String>,
-    jobs: usize,
-    whole: bool,
-}
-
-fn options() -> Result<Options, String> {
-    let mut options = Options {
-        file: None,
-        definition: None,
-        jobs: 2,
-        whole: false,
-    };
-    let mut words = std::env::args().skip(1);
-    while let Some(word) = words.next() {
-        let mut value = || words.next().ok_or(format!("{word}: a value is missing"));
-        match word.as_str() {
-            "--file" => options.file = Some(value()?),
-            "--definition" => options.definition = Some(value()?),
-            "--jobs" => options.jobs = value()?.parse().map_err(|e| format!("--jobs: {e}"))?,
-            "--whole" => options.whole = true,
-            _ => return Err(format!("not an option: {word}")),
-        }
-    }
-    Ok(options)
-}
+use trial::Trial;
+use wrong::Wrong;
 
 fn read(path: &Path) -> Result<String, String> {
     fs::read_to_string(path).map_err(|e| format!("{}: {e}", path.display()))
@@ -91,167 +64,6 @@ fn spec_files(repository: &Path) -> Result<Vec<File>, String> {
     Ok(files)
 }
 
-/// The lines of a change before and after, widened until they stand once in the definition.
-fn shown(file: &File, d: &Definition, change: &rules::Change) -> (String, String) {
-    let text = &file.text;
-    let (mut start, mut end) = (change.start, change.end);
-    let line_start = |at: usize| text[..at].rfind('\n').map_or(0, |n| n + 1);
-    let line_end = |at: usize| text[at..].find('\n').map_or(text.len(), |n| at + n);
-    (start, end) = (line_start(start), line_end(end));
-    while plain(&text[d.start..d.end])
-        .matches(&plain(&text[start..end]))
-        .count()
-        > 1
-    {
-        if start > d.start {
-            start = line_start(start - 1);
-        } else {
-            end = line_end((end + 1).min(d.end));
-        }
-    }
-    let new = format!(
-        "{}{}{}",
-        &text[start..change.start],
-        change.text,
-        &text[change.end..end]
-    );
-    (plain(&text[start..end]), plain(&new))
-}
-
-fn by_rule(files: &[File], names: &Names) -> Vec<Wrong> {
-    let mut found = Vec::new();
-    for file in files {
-        for d in &file.definitions {
-            for change in rules::changes(file, d, names) {
-                let (old, new) = shown(file, d, &change);
-                let mut text = file.text.clone();
-                text.replace_range(change.start..change.end, &change.text);
-                found.push(Wrong {
-                    file: file.name.clone(),
-                    definition: d.name.clone(),
-                    old,
-                    new,
-                    text,
-                });
-            }
-        }
-    }
-    found
-}
-
-fn by_hand(files: &[File], edits: &[Edit]) -> Result<Vec<Wrong>, String> {
-    let made = |e: &Edit| {
-        let (old, new): (Vec<String>, Vec<String>) = e.pairs.iter().cloned().unzip();
-        let text = e.apply(files)?;
-        Ok(Wrong {
-            file: e.file.clone(),
-            definition: e.definition.clone(),
-            old: old.join(" .. "),
-            new: new.join(" .. "),
-            text,
-        })
-    };
-    edits.iter().map(made).collect()
-}
-
-/// The equal ones taken out of `all`, each change once. An equal one that no rule makes is an error.
-fn without_equal(all: Vec<Wrong>, files: &[File], equal: &[Edit]) -> Result<Vec<Wrong>, String> {
-    let mut left_out = BTreeSet::new();
-    let made: BTreeSet<(String, String)> = all
-        .iter()
-        .map(|w| (w.file.clone(), plain(&w.text)))
-        .collect();
-    for edit in equal {
-        let text = (edit.file.clone(), plain(&edit.apply(files)?));
-        let named = format!("{} {}: {:?}", edit.file, edit.definition, edit.pairs);
-        if edit.why.is_empty() {
-            return Err(format!("equal, without a reason: {named}"));
-        }
-        if !made.contains(&text) {
-            return Err(format!("equal, and not made by a rule: {named}"));
-        }
-        left_out.insert(text);
-    }
-    Ok(all
-        .into_iter()
-        .filter(|w| left_out.insert((w.file.clone(), plain(&w.text))))
-        .collect())
-}
-
-fn selected(w: &Wrong, o: &Options) -> bool {
-    let file = o
-        .file
-        .as_ref()
-        .is_none_or(|f| w.file.ends_with(&format!("/{f}.antt")));
-    file && o.definition.as_ref().is_none_or(|d| *d == w.definition)
-}
-
-/// The verdicts, in the order of the wrong definitions.
-fn tried(
-    wrong: &[Wrong],
-    files: &[File],
-    names: &Names,
-    repository: &Path,
-    o: &Options,
-) -> Result<Vec<Verdict>, String> {
-    let next = Mutex::new(0);
-    let verdicts = Mutex::new(vec![Verdict::NotEnded; wrong.len()]);
-    let work = |job: usize| -> Result<(), String> {
-        let root = repository
-            .join("target/wrong_definitions")
-            .join(format!("copy{job}"));
-        let copy = WorkingCopy::new(repository, &root, o.whole)?;
-        if copy.check()? != Verdict::Accepted {
-            return Err(format!(
-                "the cases do not hold as they are: see {}",
-                root.join("log").display()
-            ));
-        }
-        loop {
-            let i = {
-                let mut n = next.lock().expect("no panic");
-                *n += 1;
-                *n - 1
-            };
-            let Some(w) = wrong.get(i) else { return Ok(()) };
-            let verdict = copy.verdict(
-                &w.file,
-                &imports::with_imports(&w.text, &added(w, files), names),
-            )?;
-            if verdict != Verdict::Refused {
-                println!(
-                    "{verdict:?}\nfile: {}\ndefinition: {}\nold: {}\nnew: {}\n",
-                    w.file, w.definition, w.old, w.new
-                );
-            }
-            verdicts.lock().expect("no panic")[i] = verdict;
-        }
-    };
-    std::thread::scope(|s| {
-        let threads: Vec<_> = (0..o.jobs.max(1))
-            .map(|job| s.spawn(move || work(job)))
-            .collect();
-        threads
-            .into_iter()
-            .try_for_each(|t| t.join().expect("no panic"))
-    })?;
-    Ok(verdicts.into_inner().expect("no panic"))
-}
-
-/// The words of a wrong definition that its file does not have as it stands: names to bring in.
-fn added(w: &Wrong, files: &[File]) -> String {
-    let before = files
-        .iter()
-        .find(|f| f.name == w.file)
-        .map_or(String::new(), |f| plain(&f.text));
-    let known: BTreeSet<&str> = before.split(' ').collect();
-    let now = plain(&w.text);
-    now.split(' ')
-        .filter(|t| !known.contains(t))
-        .collect::<Vec<_>>()
-        .join(" ")
-}
-
 /// The counts, and the definitions that no well-typed change was made of.
 fn report(wrong: &[Wrong], verdicts: &[Verdict], files: &[File], o: &Options) -> ExitCode {
     let count = |v: Verdict| verdicts.iter().filter(|x| **x == v).count();
@@ -261,15 +73,11 @@ fn report(wrong: &[Wrong], verdicts: &[Verdict], files: &[File], o: &Options) ->
         .filter(|(_, v)| **v != Verdict::NotTyped)
         .map(|(w, _)| (w.file.as_str(), w.definition.as_str()))
         .collect();
-    for file in files.iter().filter(|f| {
-        o.file
-            .as_ref()
-            .is_none_or(|n| f.name.ends_with(&format!("/{n}.antt")))
-    }) {
+    for file in files.iter().filter(|_| o.part.1 == 1) {
         for d in file
             .definitions
             .iter()
-            .filter(|d| o.definition.as_ref().is_none_or(|n| *n == d.name))
+            .filter(|d| o.selects(&file.name, &d.name))
         {
             if !typed.contains(&(file.name.as_str(), d.name.as_str())) {
                 println!(
@@ -287,11 +95,11 @@ fn report(wrong: &[Wrong], verdicts: &[Verdict], files: &[File], o: &Options) ->
         count(Verdict::NotEnded),
         count(Verdict::NotTyped)
     );
-    ExitCode::from(u8::from(count(Verdict::Accepted) > 0))
+    ExitCode::from(u8::from(count(Verdict::Refused) < tried))
 }
 
 fn run() -> Result<ExitCode, String> {
-    let o = options()?;
+    let o = Options::read()?;
     let package = PathBuf::from(env!("CARGO_MANIFEST_DIR"));
     let repository = package
         .join("../..")
@@ -299,20 +107,32 @@ fn run() -> Result<ExitCode, String> {
         .map_err(|e| e.to_string())?;
     let files = spec_files(&repository)?;
     let names = Names::new(&files, &read(&repository.join("crates/model/src/lib.rt"))?);
-    let mut all = by_rule(&files, &names);
-    all.extend(by_hand(
+    let mut all = wrong::by_rule(&files, &names);
+    all.extend(wrong::by_hand(
         &files,
         &edits::read(&read(&package.join("list"))?)?,
     )?);
     let equal = edits::read(&read(&package.join("equal"))?)?;
-    let mut wrong = without_equal(all, &files, &equal)?;
-    wrong.retain(|w| selected(w, &o));
+    let mut wrong = wrong::without_equal(all, &files, &equal)?;
+    wrong.retain(|w| o.selects(&w.file, &w.definition));
+    let (k, n) = o.part;
+    let wrong: Vec<Wrong> = wrong.into_iter().skip(k - 1).step_by(n).collect();
     eprintln!(
         "{} wrong definitions, {} equal ones left out",
         wrong.len(),
         equal.len()
     );
-    let verdicts = tried(&wrong, &files, &names, &repository, &o)?;
+    if o.show {
+        wrong.iter().for_each(|w| println!("{w}"));
+        return Ok(ExitCode::SUCCESS);
+    }
+    let trial = Trial {
+        wrong: &wrong,
+        files: &files,
+        names: &names,
+        repository: &repository,
+    };
+    let verdicts = trial.verdicts(&o)?;
     Ok(report(&wrong, &verdicts, &files, &o))
 }
 
