@@ -12,3 +12,15 @@ pub mod Entries
 pub mod TurnedBack
 pub mod Runs
 pub mod Printed
+pub mod Fields
+pub mod Bytes
+pub mod Locked
+pub mod Factors
+pub mod Valid
+pub mod Modes
+pub mod Rules
+pub mod Limits
+pub mod Grants
+pub mod Failures
+pub mod Operations
+pub mod Answers

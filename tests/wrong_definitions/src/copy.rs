@@ -1,5 +1,5 @@
 //! A working copy: the crate `octets` with its definitions alone, and a crate `model` with the definitions and, as its proofs, the cases. They
-//! stand in one crate so that one check, which goes over what a change reaches, tries it. A copy for statements has the theorems' proofs too.
+//! stand in one crate so that one check, which goes over what a change reaches, tries it. A copy for statements has the proofs of the crate `model` instead.
 
 use std::collections::{BTreeMap, BTreeSet};
 use std::fs;
@@ -21,7 +21,7 @@ pub enum Verdict {
 const BASE: [&str; 3] = ["Open", "Build", "Parts"];
 const COMPUTED: [&str; 3] = ["Cases", "Applied", "Premises"];
 
-/// What a copy has as proofs: cases alone, or the theorems' proofs too.
+/// What a copy has as proofs: all cases, or the proofs of the model, the theorems' among them.
 #[derive(Clone, Copy, PartialEq, Eq)]
 pub enum Proofs {
     Cases,
@@ -94,11 +94,13 @@ impl WorkingCopy {
             let file = format!("model/proofs/{name}.antt");
             write(&to(&file), &read(&from(&file))?)?;
         }
-        let mut cases = modules(&from("cases/proofs"), &|_| true)?;
-        cases.extend(modules(&from("model/proofs"), &|name| {
-            let computed = COMPUTED.contains(&name) || proofs == Proofs::Theorems;
-            computed && !BASE.contains(&name)
-        })?);
+        let mut cases = modules(&from("model/proofs"), &|name| {
+            let wanted = COMPUTED.contains(&name) || proofs == Proofs::Theorems;
+            wanted && !BASE.contains(&name)
+        })?;
+        if proofs == Proofs::Cases {
+            cases.extend(modules(&from("cases/proofs"), &|_| true)?);
+        }
         Ok(WorkingCopy {
             root: root.to_path_buf(),
             cases,
