@@ -5,6 +5,7 @@ use mathlib.Core.Path.{_≡_, refl}
 use mathlib.Core.List.{List, [], _∷_, _++_, map}
 use lib.ListN.{replicate}
 use Rattle.octets.specs.Octets.{put}
+use Rattle.model.specs.State.{Panel}
 use Rattle.model.specs.Calls.{number}
 use Rattle.model.specs.Lists.{History, withAnswers, answersIn, returns, begun, ended, worked, firstOf, eventIn, refusalIn, credentialIn}
 use Rattle.model.proofs.Open.{definitions}
@@ -35,8 +36,12 @@ four-runs =
           ∷ record { journal = two-more ++ two-elsewhere; answers = replicate 32 9 } ∷ [];
     }
 
+-- The panel of the zone with a count.
+unfoldable pub counted : ℕ → Panel
+counted n = (zone-at 8, 0 ∷ 0 ∷ 0 ∷ n ∷ replicate 28 0) ∷ []
+
 unfoldable pub runs-open : Unit {0}
-unfolding five-more two-more two-elsewhere four-runs
+unfolding five-more two-more two-elsewhere four-runs counted
 runs-open = tt
 
 pub four-returns : map number (returns (four-runs .site) (begun four-runs) (four-runs .runs)) ≡ 0 ∷ 10 ∷ 11 ∷ 0 ∷ []
@@ -61,16 +66,17 @@ four-states = refl
 
 pub four-worked :
     worked four-runs
-    ≡ record { entry = five-more; answer = 0 ∷ 0 ∷ 0 ∷ 0 ∷ 0 ∷ 0 ∷ 0 ∷ 0 ∷ 0x00 ∷ 0x3F ∷ 0xFF ∷ 0xFF ∷ 0 ∷ 0 ∷ 0 ∷ 5 ∷ [] }
-    ∷ record { entry = two-more; answer = 0 ∷ 0 ∷ 0 ∷ 0 ∷ 0 ∷ 0 ∷ 0 ∷ 0 ∷ 0x00 ∷ 0x3F ∷ 0xFF ∷ 0xFF ∷ 0 ∷ 0 ∷ 0 ∷ 7 ∷ [] }
-    ∷ record { entry = two-elsewhere; answer = 0 ∷ 0 ∷ 0 ∷ 8 ∷ 0 ∷ 0 ∷ 0 ∷ 0 ∷ 0x00 ∷ 0x3F ∷ 0xFF ∷ 0xFF ∷ 0 ∷ 0 ∷ 0 ∷ 0 ∷ [] } ∷ []
+    ≡ record { found = counted 0; entry = five-more; answer = 0 ∷ 0 ∷ 0 ∷ 0 ∷ 0 ∷ 0 ∷ 0 ∷ 0 ∷ 0x00 ∷ 0x3F ∷ 0xFF ∷ 0xFF ∷ 0 ∷ 0 ∷ 0 ∷ 5 ∷ [] }
+    ∷ record { found = counted 5; entry = two-more; answer = 0 ∷ 0 ∷ 0 ∷ 0 ∷ 0 ∷ 0 ∷ 0 ∷ 0 ∷ 0x00 ∷ 0x3F ∷ 0xFF ∷ 0xFF ∷ 0 ∷ 0 ∷ 0 ∷ 7 ∷ [] }
+    ∷ record { found = counted 7; entry = two-elsewhere; answer = 0 ∷ 0 ∷ 0 ∷ 8 ∷ 0 ∷ 0 ∷ 0 ∷ 0 ∷ 0x00 ∷ 0x3F ∷ 0xFF ∷ 0xFF ∷ 0 ∷ 0 ∷ 0 ∷ 0 ∷ [] } ∷ []
 unfolding definitions tables put records-at runs-open
 four-worked = refl
 
--- Entries and answers go together as far as there are both.
+-- Panels, entries and answers go together as far as there are all three.
 pub paired-answers :
-    withAnswers ((1 ∷ []) ∷ (2 ∷ []) ∷ []) ((3 ∷ []) ∷ []) ∷ withAnswers ((1 ∷ []) ∷ []) ((3 ∷ []) ∷ (4 ∷ []) ∷ []) ∷ []
-    ≡ (record { entry = 1 ∷ []; answer = 3 ∷ [] } ∷ []) ∷ (record { entry = 1 ∷ []; answer = 3 ∷ [] } ∷ []) ∷ []
+    withAnswers ([] ∷ counted 6 ∷ []) ((1 ∷ []) ∷ (2 ∷ []) ∷ []) ((3 ∷ []) ∷ []) ∷ withAnswers (counted 6 ∷ []) ((1 ∷ []) ∷ (2 ∷ []) ∷ []) ((3 ∷ []) ∷ (4 ∷ []) ∷ [])
+    ∷ withAnswers ([] ∷ []) [] ((3 ∷ []) ∷ []) ∷ []
+    ≡ (record { found = []; entry = 1 ∷ []; answer = 3 ∷ [] } ∷ []) ∷ (record { found = counted 6; entry = 1 ∷ []; answer = 3 ∷ [] } ∷ []) ∷ [] ∷ []
 paired-answers = refl
 
 -- The first entry of two, with the room for its answer; none of them.
