@@ -11,7 +11,7 @@ use Rattle.model.specs.Calls.{number}
 use Rattle.model.specs.Lists.{History, runOn, returns, begun, ended, answersIn, firstOf, refusalIn}
 use Rattle.model.specs.Tally.{smaller, move, setTo, signed, passed, tallied, tally, tallyOf, standing, countOf}
 use Rattle.model.proofs.Open.{definitions}
-use Rattle.model.proofs.Build.{zone, point, lockingPoint, credential, absentCredential, card, read, adjust, lock, cut, runOf, events, run, history, examples}
+use Rattle.model.proofs.Build.{zone, point, lockingPoint, credential, absentCredential, masterCredential, card, read, setCount, adjust, lock, cut, runOf, events, run, history, examples}
 use Rattle.model.proofs.Parts.{part, nothing, isolationTests, parts}
 
 -- One name that opens the definitions of Tally.
@@ -106,3 +106,9 @@ refused-answers = refl
 pub absent : events (runOf (point 1 0 1 1 NONE NONE ∷ absentCredential 5 1 ∷ card 5 55 ∷ []) (read 1 0 55 ∷ read 1 172800 55 ∷ [])) ≡ 1 ∷ 157 ∷ []
 unfolding definitions examples
 absent = refl
+
+-- Nor is anybody where the count is full, not even a master.
+pub full :
+    events (runOf (zone 7 0 ∷ point 1 8 1 1 7 NONE ∷ masterCredential 5 ∷ card 5 55 ∷ []) (setCount 7 4294967295 ∷ read 1 1 55 ∷ [])) ≡ 0 ∷ 164 ∷ []
+unfolding definitions examples
+full = refl

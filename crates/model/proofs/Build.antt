@@ -59,6 +59,12 @@ absentCredential i days =
     (n.access-credential ∷ 0 ∷ 0 ∷ 0 ∷ []) ++ digits 4 i ++ digits 4 0 ++ digits 4 NEVER ++ digits 2 UNLIMITED ++ digits 2 UNLIMITED
     ++ digits 2 days ++ zeros 2 ++ digits 4 NONE ++ digits 4 NONE
 
+-- A master-exempt credential.
+unfoldable pub masterCredential : ℕ → List ℕ
+masterCredential i =
+    (n.access-credential ∷ 1 ∷ 0 ∷ 0 ∷ []) ++ digits 4 i ++ digits 4 0 ++ digits 4 NEVER ++ digits 2 UNLIMITED ++ digits 2 UNLIMITED
+    ++ digits 2 UNLIMITED ++ zeros 2 ++ digits 4 NONE ++ digits 4 NONE
+
 -- A credential with both rights numbers.
 unfoldable pub ruledCredential : ℕ → ℕ → ℕ → List ℕ
 ruledCredential i first second =
@@ -79,9 +85,12 @@ rule rights flags at from to =
 unfoldable pub everyRule : ℕ → List ℕ
 everyRule rights = (n.access-rule ∷ 13 ∷ 0 ∷ 0 ∷ []) ++ digits 4 rights ++ zeros 24
 
--- A factor of format 2 read at a point; a zone's count adjusted; a credential's disable set.
+-- A factor of format 2 read at a point; a zone's count set; adjusted; a credential's disable set.
 unfoldable pub read : ℕ → ℕ → ℕ → List ℕ
 read at time value = (1 ∷ 2 ∷ 0 ∷ 0 ∷ []) ++ digits 4 time ++ digits 4 at ++ zeros 8 ++ digits 4 value
+
+unfoldable pub setCount : ℕ → ℕ → List ℕ
+setCount i amount = (2 ∷ 0 ∷ 0 ∷ 0 ∷ []) ++ digits 4 0 ++ digits 4 i ++ digits 4 amount ++ zeros 8
 
 unfoldable pub adjust : ℕ → ℕ → List ℕ
 adjust i amount = (3 ∷ 0 ∷ 0 ∷ 0 ∷ []) ++ digits 4 0 ++ digits 4 i ++ digits 4 amount ++ zeros 8
@@ -123,5 +132,5 @@ history site journals accepted =
 
 -- One name that opens them all.
 unfoldable pub examples : Unit {0}
-unfolding zone lowerZone passbackZone point lockingPoint threatPoint credential limitedCredential absentCredential ruledCredential factor card rule everyRule read adjust setDisable lock cut runOf events run history
+unfolding zone lowerZone passbackZone point lockingPoint threatPoint credential limitedCredential absentCredential masterCredential ruledCredential factor card rule everyRule read setCount adjust setDisable lock cut runOf events run history
 examples = tt
