@@ -141,9 +141,9 @@ fn random_and_damaged_files() {
         let printed = files.assert_printed(&program, &site, &journal);
         worked_through += usize::from(printed.starts_with("00"));
     }
-    let few = 20..180;
+    let some_of_both = 20..180;
     assert!(
-        few.contains(&worked_through),
+        some_of_both.contains(&worked_through),
         "{worked_through} worked through"
     );
 }
