@@ -2,11 +2,15 @@
 use Prim.Native.Nat.{ℕ}
 use mathlib.Core.Path.{_≡_, refl}
 use mathlib.Core.List.{List, [], _∷_, map, flatten}
+use mathlib.Core.Bool.{true, false}
+use lib.Dec.{eqb}
 use lib.ListN.{replicate}
 use Rattle.octets.specs.Octets.{field, put}
 use Rattle.model.specs.Entry.{entryOf, answerBytes}
 use Rattle.model.specs.Calls.{freshState, runJournal}
+use Rattle.model.specs.Part.{belongs}
 use Rattle.model.proofs.Open.{definitions}
+use Rattle.model.proofs.Parts.{part, nothing, parts}
 use Rattle.cases.proofs.Change.{Field, with-fields}
 use Rattle.cases.proofs.Records.{entry-of, tables}
 use Rattle.cases.proofs.Lookups.{offsets}
@@ -128,3 +132,11 @@ pub entry-order :
     ≡ 7 ∷ 9 ∷ 0 ∷ 8 ∷ 7 ∷ []
 unfolding definitions tables put records-at refusing
 entry-order = refl
+
+-- "an entry belongs by its instance under its operation, unknown operations to none": zone 1, point 1 and credential 1 are the part; operations 0 to 6
+-- at instance 1, and at instance 2.
+pub belonging :
+    map (λ i. map (λ o. belongs (part (λ z. eqb z 1) nothing) (entryOf (entry-of ((0, 1, o) ∷ (8, 4, i) ∷ [])))) (0 ∷ 1 ∷ 2 ∷ 3 ∷ 4 ∷ 5 ∷ 6 ∷ [])) (1 ∷ 2 ∷ [])
+    ≡ (false ∷ true ∷ true ∷ true ∷ true ∷ true ∷ false ∷ []) ∷ (false ∷ false ∷ false ∷ false ∷ false ∷ false ∷ false ∷ []) ∷ []
+unfolding definitions tables put parts
+belonging = refl

@@ -24,3 +24,4 @@ pub mod Grants
 pub mod Failures
 pub mod Operations
 pub mod Answers
+pub mod SelfContained

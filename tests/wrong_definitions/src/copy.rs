@@ -214,22 +214,20 @@ impl WorkingCopy {
         Ok(None)
     }
 
-    /// A failed check refuses the change where the error is in a case or, in a copy that has them, in a theorem's proof.
+    /// A failed check refuses the change where its errors are in cases alone and one is a fact that does not hold. An error in the definitions,
+    /// or in what the cases rest on, makes errors in the cases too, and says nothing of them.
     fn judged(&self, said: &str) -> Outcome {
-        let in_line = |line: &str| {
-            self.cases
-                .keys()
-                .find(|c| line.contains(&format!("/model/proofs/{c}.antt:")))
-                .cloned()
+        let case_of = |line: &str| {
+            let in_case = |c: &&String| line.contains(&format!("/model/proofs/{c}.antt:"));
+            self.cases.keys().find(in_case).cloned()
         };
-        let module = said
-            .lines()
-            .filter(|l| l.contains(": error: "))
-            .find_map(in_line);
-        let verdict = if module.is_some() {
-            Verdict::Refused
-        } else {
-            Verdict::NotTyped
+        let errors: Vec<&str> = said.lines().filter(|l| l.contains(": error: ")).collect();
+        let in_cases = errors.iter().all(|l| case_of(l).is_some());
+        let mut facts = errors.iter().filter(|l| !l.contains("was not admitted"));
+        let module = facts.next().filter(|_| in_cases).and_then(|l| case_of(l));
+        let verdict = match module {
+            Some(_) => Verdict::Refused,
+            None => Verdict::NotTyped,
         };
         Outcome { verdict, module }
     }
@@ -260,4 +258,30 @@ fn in_model(text: &str) -> String {
     text.replace("Rattle.model.proofs.", "Rattle.model.proofs.")
         .replace("Rattle.model.specs.", "Rattle.model.specs.")
         .replace("Rattle.cases.proofs.", "Rattle.model.proofs.")
+}
+
+#[cfg(test)]
+mod tests {
+    use super::*;
+
+    #[test]
+    fn a_type_error_is_no_refusal() {
+        let cases = BTreeMap::from([("Runs".to_string(), String::new())]);
+        let copy = WorkingCopy {
+            root: PathBuf::new(),
+            cases,
+            whole: false,
+        };
+        let fact = "/c/model/proofs/Runs.antt:1:2: error: `a`: the two types differ\n";
+        let follows = "/c/model/proofs/Runs.antt:3:4: error: `b`: `a` was not admitted\n";
+        let in_specs = "/c/model/specs/Site.antt:5:6: error: `kind`: not in scope\n";
+        let in_base = "/c/model/proofs/Open.antt:7:8: error: `definitions`: cannot be unfolded\n";
+        let verdict = |said: &[&str]| copy.judged(&said.concat()).verdict;
+        assert_eq!(verdict(&[fact, follows]), Verdict::Refused);
+        assert_eq!(verdict(&[in_specs, fact]), Verdict::NotTyped);
+        assert_eq!(verdict(&[fact, in_base]), Verdict::NotTyped);
+        assert_eq!(verdict(&[follows]), Verdict::NotTyped);
+        assert_eq!(verdict(&["rt: octets NOT PROVED\n"]), Verdict::NotTyped);
+        assert_eq!(copy.judged(fact).module, Some("Runs".to_string()));
+    }
 }
