@@ -10,3 +10,6 @@ pub mod Entries
 pub mod TurnedBack
 pub mod Runs
 pub mod Printed
+pub mod Fields
+pub mod Bytes
+pub mod Locked
