@@ -44,6 +44,10 @@ door-state = digits 32 0x0000000A_00_00_0000_000003E8_00000384_003FFFFF_00000320
 unfoldable pub person-state : List ℕ
 person-state = digits 32 0x0009_0008_000002BC_003FFFFF_00000258_0080_00_00_003FFFFF_0000000000000000
 
+-- Of a zone, with its count.
+unfoldable pub counted : ℕ → List ℕ
+counted n = digits 4 n ++ zeros 28
+
 -- ── entries
 
 -- An entry with its operation, argument, time, instance, amount and value.
@@ -63,12 +67,12 @@ errs time value = entry 1 1 time 2 0 value
 
 -- ── runs
 
--- The site of point 2, credential 5 and its card, with fields of each changed; its state.
+-- The site of point 2, credential 5 and its two factors, with fields changed of the point, the credential, both factors; its state.
 unfoldable pub site : List Field → List Field → List Field → List (List ℕ)
-site ds ps cs = with-fields ds door ∷ with-fields ps person ∷ with-fields cs card ∷ []
+site ds ps fs = with-fields ds door ∷ with-fields ps person ∷ with-fields fs card ∷ with-fields fs pin ∷ []
 
 unfoldable pub state : List Field → List Field → List (List ℕ)
-state ds ps = with-fields ds door-state ∷ with-fields ps person-state ∷ zeros 32 ∷ []
+state ds ps = with-fields ds door-state ∷ with-fields ps person-state ∷ zeros 32 ∷ zeros 32 ∷ []
 
 -- A journal of entries run on a site of records, from a state of records and from fresh.
 unfoldable pub from-state : List (List ℕ) → List (List ℕ) → List (List ℕ) → RunResult
@@ -91,5 +95,5 @@ worked r = answered r ++ map (field 0 32) (groups 32 (length (r .state) / 32) (r
 
 -- One name that opens them, and the definitions.
 unfoldable pub bytes : Unit {0}
-unfolding definitions put with-fields door hall rule person card pin door-state person-state entry shows types errs site state from-state from-new answered told worked
+unfolding definitions put with-fields door hall rule person card pin door-state person-state counted entry shows types errs site state from-state from-new answered told worked
 bytes = tt

@@ -13,3 +13,4 @@ pub mod Printed
 pub mod Fields
 pub mod Bytes
 pub mod Locked
+pub mod Factors
