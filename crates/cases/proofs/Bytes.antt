@@ -15,9 +15,12 @@ use Rattle.cases.proofs.Change.{Field, with-fields}
 unfoldable pub door : List ℕ
 door = digits 32 0x02_00_01_01_00000002_003FFFFF_003FFFFF_00_00_0000_00000000_00000000_00000000
 
--- Zone 7: counting, nothing set.
+-- Zones 7 and 8: counting, nothing set.
 unfoldable pub hall : List ℕ
 hall = digits 32 0x01_01_00_00_00000007_00000000_00000000_00000000_000000000000000000000000
+
+unfoldable pub yard : List ℕ
+yard = digits 32 0x01_01_00_00_00000008_00000000_00000000_00000000_000000000000000000000000
 
 -- Rights 9: an enabled rule that fits always, at point 2.
 unfoldable pub rule : List ℕ
@@ -95,5 +98,5 @@ worked r = answered r ++ map (field 0 32) (groups 32 (length (r .state) / 32) (r
 
 -- One name that opens them, and the definitions.
 unfoldable pub bytes : Unit {0}
-unfolding definitions put with-fields door hall rule person card pin door-state person-state counted entry shows types errs site state from-state from-new answered told worked
+unfolding definitions put with-fields door hall yard rule person card pin door-state person-state counted entry shows types errs site state from-state from-new answered told worked
 bytes = tt

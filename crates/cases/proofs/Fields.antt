@@ -80,6 +80,12 @@ activation v = (8, 4, v)
 abbrev pub expiry : ℕ → Field
 expiry v = (12, 4, v)
 
+abbrev pub uses-given : ℕ → Field
+uses-given v = (16, 2, v)
+
+abbrev pub days-given : ℕ → Field
+days-given v = (18, 2, v)
+
 abbrev pub absentee : ℕ → Field
 absentee v = (20, 2, v)
 

@@ -14,3 +14,5 @@ pub mod Fields
 pub mod Bytes
 pub mod Locked
 pub mod Factors
+pub mod Validity
+pub mod Rules
