@@ -77,6 +77,15 @@ site ds ps fs = with-fields ds door ∷ with-fields ps person ∷ with-fields fs
 unfoldable pub state : List Field → List Field → List (List ℕ)
 state ds ps = with-fields ds door-state ∷ with-fields ps person-state ∷ zeros 32 ∷ zeros 32 ∷ []
 
+-- The same where point 2 leads from zone 8 into zone 7, with fields changed of both zones, the point and the credential; its state, with
+-- both counts, and credential 5 in zone 7 since 1000.
+unfoldable pub passing : List Field → List Field → List Field → List Field → List (List ℕ)
+passing hs ys ds ps =
+    with-fields hs hall ∷ with-fields ys yard ∷ site ((8, 4, 7) ∷ (12, 4, 8) ∷ ds) ps []
+
+unfoldable pub inside : ℕ → ℕ → List Field → List (List ℕ)
+inside to from ps = counted to ∷ counted from ∷ state [] ((8, 4, 7) ∷ (12, 4, 1000) ∷ ps)
+
 -- A journal of entries run on a site of records, from a state of records and from fresh.
 unfoldable pub from-state : List (List ℕ) → List (List ℕ) → List (List ℕ) → RunResult
 from-state records states journal =
@@ -98,5 +107,5 @@ worked r = answered r ++ map (field 0 32) (groups 32 (length (r .state) / 32) (r
 
 -- One name that opens them, and the definitions.
 unfoldable pub bytes : Unit {0}
-unfolding definitions put with-fields door hall yard rule person card pin door-state person-state counted entry shows types errs site state from-state from-new answered told worked
+unfolding definitions put with-fields door hall yard rule person card pin door-state person-state counted entry shows types errs site state passing inside from-state from-new answered told worked
 bytes = tt

@@ -15,4 +15,6 @@ pub mod Bytes
 pub mod Locked
 pub mod Factors
 pub mod Validity
+pub mod Authorization
 pub mod Rules
+pub mod Limits
