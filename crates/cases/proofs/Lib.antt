@@ -18,3 +18,5 @@ pub mod Validity
 pub mod Authorization
 pub mod Rules
 pub mod Limits
+pub mod Grants
+pub mod Failures
