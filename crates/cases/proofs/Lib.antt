@@ -20,3 +20,5 @@ pub mod Rules
 pub mod Limits
 pub mod Grants
 pub mod Failures
+pub mod Operations
+pub mod Answers
