@@ -14,8 +14,8 @@ pub mod Fields
 pub mod Bytes
 pub mod Locked
 pub mod Factors
-pub mod Validity
-pub mod Authorization
+pub mod Valid
+pub mod Modes
 pub mod Rules
 pub mod Limits
 pub mod Grants

@@ -14,7 +14,7 @@ at-door ds ps = told (from-new (site ds ps []) (shows 0 0x55 ∷ []))
 unfoldable pub crowd : List Field → List Field → List (List ℕ)
 crowd ds ps = passing (passback 1 ∷ upper 3 ∷ []) (lower 3 ∷ []) (flags 6 ∷ threat 100 ∷ ds) (authority 99 ∷ ps)
 
-pub record Authorization : Type 0 where
+pub record Modes : Type 0 where
   -- "mode 0 AUTHORIZE, 1 GRANT_ACTIVE, 2 DENY_ALL".
   modes : at-door (mode 0 ∷ []) [] ++ at-door (mode 1 ∷ []) [] ++ at-door (mode 2 ∷ []) [] ≡ 134 ∷ 1 ∷ 128 ∷ []
   -- "Authority < threat: 137."
@@ -42,7 +42,7 @@ pub record Authorization : Type 0 where
       ++ told (from-state (site [] (flags 1 ∷ []) []) (state [] (disabled 1 ∷ [])) (shows 1000 0x55 ∷ []))
       ≡ 161 ∷ 158 ∷ []
 
-pub authorization-cases : Authorization
+pub modes-cases : Modes
 unfolding bytes at-door crowd
-authorization-cases =
+modes-cases =
     record { modes = refl; threats = refl; order = refl; master = refl; not-master = refl; master-denied = refl }

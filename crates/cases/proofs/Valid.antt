@@ -15,7 +15,7 @@ shown ps ss time = told (from-state (site [] ps []) (state [] ss) (shows time 0x
 unfoldable pub denied : List Field → List Field → List ℕ
 denied ps ss = told (from-state (site (mode 2 ∷ []) ps []) (state [] ss) (shows 1500 0x55 ∷ []))
 
-pub record Validity : Type 0 where
+pub record Valid : Type 0 where
   -- "Time < activation 151".
   activates : told (from-new (site [] (activation 200 ∷ []) []) (shows 199 0x55 ∷ shows 200 0x55 ∷ shows 201 0x55 ∷ [])) ≡ 151 ∷ 1 ∷ 1 ∷ []
   -- "> expiry 152"; "never (or end of time)".
@@ -65,9 +65,9 @@ pub record Validity : Type 0 where
       ++ denied (absentee 0 ∷ []) (uses 0 ∷ []) ++ denied (absentee 0 ∷ []) [] ++ denied [] []
       ≡ 158 ∷ 153 ∷ 154 ∷ 155 ∷ 156 ∷ 157 ∷ 128 ∷ []
 
-pub validity-cases : Validity
+pub valid-cases : Valid
 unfolding bytes shown denied
-validity-cases =
+valid-cases =
     record {
       activates = refl;
       expires = refl;
