@@ -4,7 +4,7 @@ use Prim.Native.Nat.{ℕ}
 use mathlib.Core.Path.{_≡_, refl}
 use mathlib.Core.List.{List, [], _∷_, _++_}
 use Rattle.cases.proofs.Change.{Field, with-fields}
-use Rattle.cases.proofs.Fields.{instance, flags, mode, factors-wanted, relinquish, value, tag, locked, waiting-for, last-point, uses}
+use Rattle.cases.proofs.Fields.{instance, flags, passback, upper, lower, mode, factors-wanted, threat, relinquish, activation, expiry, absentee, value, tag, locked, waiting-for, uses, days, disabled, last-point}
 use Rattle.cases.proofs.Bytes.{door, hall, yard, person, card, door-state, person-state, counted, entry, shows, types, errs, site, state, passing, inside, from-state, answered, worked, bytes}
 
 pub record Answers : Type 0 where
@@ -42,6 +42,50 @@ pub record Answers : Type 0 where
 pub answers-cases : Answers
 unfolding bytes
 answers-cases = record { out-of-service = refl; tag-turns = refl; traced = refl; counted-always = refl }
+
+-- ── who is named
+
+-- The answer to the card of credential 5, which is traced, with fields changed of the point, of the credential and of its state; and where
+-- point 2 leads from zone 8 into zone 7, with both counts 3 and fields changed of the zones and the point.
+unfoldable pub tracing : List Field → List Field → List Field → List ℕ
+tracing ds ps ss = answered (from-state (site ds (flags 8 ∷ ps) []) (state [] ss) (shows 1001 0x55 ∷ []))
+
+unfoldable pub tracing-through : ℕ → List Field → List Field → List Field → List ℕ
+tracing-through to hs ys ds =
+    answered (from-state (passing hs ys ds (flags 8 ∷ [])) (inside to 3 []) (shows 1001 0x55 ∷ []))
+
+pub record Named : Type 0 where
+  -- "The answer names .. the one that step 3 matched": on every denial of step 5.
+  step-5 :
+      tracing [] (activation 2000 ∷ []) [] ++ tracing [] (expiry 1000 ∷ []) [] ++ tracing [] [] (disabled 1 ∷ [])
+      ++ tracing [] [] (disabled 2 ∷ []) ++ tracing [] [] (disabled 3 ∷ []) ++ tracing [] [] (days 0 ∷ []) ++ tracing [] [] (uses 0 ∷ [])
+      ++ tracing [] (absentee 0 ∷ []) []
+      ≡ 0x0097_03_00_0000000B_00000005_00000000 ∷ 0x0098_03_00_0000000B_00000005_00000000 ∷ 0x009E_03_00_0000000B_00000005_00000000
+      ∷ 0x0099_03_00_0000000B_00000005_00000000 ∷ 0x009A_03_00_0000000B_00000005_00000000 ∷ 0x009B_03_00_0000000B_00000005_00000000
+      ∷ 0x009C_03_00_0000000B_00000005_00000000 ∷ 0x009D_03_00_0000000B_00000005_00000000 ∷ []
+  -- Of steps 7 to 11.
+  later-steps :
+      tracing (mode 2 ∷ []) [] [] ++ tracing (threat 1 ∷ []) [] [] ++ tracing (mode 0 ∷ []) [] []
+      ++ tracing-through 3 [] [] (mode 0 ∷ []) ++ tracing-through 3 (passback 1 ∷ []) [] []
+      ++ tracing-through 3 [] (lower 3 ∷ []) (flags 4 ∷ []) ++ tracing-through 3 (upper 3 ∷ []) [] (flags 2 ∷ [])
+      ++ tracing-through 0xFFFFFFFF [] [] (flags 8 ∷ [])
+      ≡ 0x0080_03_00_0000000B_00000005_00000000 ∷ 0x0089_03_00_0000000B_00000005_00000000 ∷ 0x0086_03_00_0000000B_00000005_00000000
+      ∷ 0x0085_03_00_0000000B_00000005_00000003 ∷ 0x008A_03_00_0000000B_00000005_00000003 ∷ 0x008D_03_00_0000000B_00000005_00000003
+      ∷ 0x008E_03_00_0000000B_00000005_00000003 ∷ 0x00A4_03_00_0000000B_00000005_FFFFFFFF ∷ []
+  -- "the credential waited for": the wait ends with 164, the last of the denials.
+  waited-for :
+      worked
+      (from-state (passing [] [] (flags 8 ∷ factors-wanted 2 ∷ []) (flags 8 ∷ []))
+      (counted 0xFFFFFFFF ∷ counted 3 ∷ state (waiting-for 5 ∷ []) []) (types 1001 0x66 ∷ []))
+      ≡ 0x00A4_03_00_0000000B_00000005_FFFFFFFF
+      ∷ 0xFFFFFFFF_00000000000000000000000000000000000000000000000000000000
+      ∷ 0x00000003_00000000000000000000000000000000000000000000000000000000
+      ∷ 0x0000000B_00_00_0000_000003E8_00000384_003FFFFF_00000320_0000000000000000
+      ∷ 0x0009_0008_000003E9_003FFFFF_00000258_00A4_00_00_00000002_0000000000000000 ∷ 0 ∷ 0 ∷ []
+
+pub named : Named
+unfolding bytes tracing tracing-through
+named = record { step-5 = refl; later-steps = refl; waited-for = refl }
 
 -- ── whose records
 

@@ -45,9 +45,11 @@ pub record Passback : Type 0 where
       again (passback 1 ∷ []) (flags 2 ∷ []) [] 1001 ++ again (passback 2 ∷ []) (flags 2 ∷ []) [] 1001
       ++ again (passback 1 ∷ []) (flags 4 ∷ []) [] 1001
       ≡ granted ++ granted ++ denied
-  -- "Zone_To is .. the credential's zone": it is in zone 8, in none.
+  -- "Zone_To is .. the credential's zone": it is in zone 8, in none; in zone 7 and goes into zone 8.
   elsewhere :
-      again (passback 1 ∷ []) [] (in-zone 8 ∷ []) 1001 ++ again (passback 1 ∷ []) [] (in-zone 4194303 ∷ []) 1001 ≡ granted ++ granted
+      again (passback 1 ∷ []) [] (in-zone 8 ∷ []) 1001 ++ again (passback 1 ∷ []) [] (in-zone 4194303 ∷ []) 1001
+      ++ answered (from-state (passing [] (passback 1 ∷ []) (zone-to 8 ∷ zone-from 7 ∷ []) []) (inside 0 0 []) (shows 1001 0x55 ∷ []))
+      ≡ granted ++ granted ++ granted
   -- A zone that does not count; Zone_From's passback; no Zone_To and no zone.
   other-zones :
       again (flags 0 ∷ passback 1 ∷ []) [] [] 1001

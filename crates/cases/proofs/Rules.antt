@@ -46,13 +46,14 @@ rights = record { of-both = refl; enabled = refl; a-credential = refl }
 pub record Locations : Type 0 where
   -- "A location fits if everywhere, this point, or its Zone_To."
   fits : under ((flags 13 ∷ location-kind 0 ∷ location 0 ∷ []) ∷ []) ++ under ([] ∷ []) ++ under ((location-kind 1 ∷ location 7 ∷ []) ∷ []) ≡ 1 ∷ 1 ∷ 1 ∷ []
-  -- Zone_From does not; nor another point, a point with the number of Zone_To, a zone with the number of the point.
+  -- Zone_From does not; nor other points, a point with the number of Zone_To, a zone with the number of the point.
   elsewhere :
       under ((location-kind 1 ∷ location 8 ∷ []) ∷ [])
+      ++ told (from-new (ruled ((location 1 ∷ []) ∷ []) (with-fields (instance 1 ∷ []) door ∷ [])) (shows 0 0x55 ∷ []))
       ++ told (from-new (ruled ((location 3 ∷ []) ∷ []) (with-fields (instance 3 ∷ []) door ∷ [])) (shows 0 0x55 ∷ []))
       ++ told (from-new (ruled ((location 7 ∷ []) ∷ []) (with-fields (instance 7 ∷ []) door ∷ [])) (shows 0 0x55 ∷ []))
       ++ told (from-new (ruled ((location-kind 1 ∷ []) ∷ []) (with-fields (instance 2 ∷ []) hall ∷ [])) (shows 0 0x55 ∷ []))
-      ≡ 133 ∷ 133 ∷ 133 ∷ 133 ∷ []
+      ≡ 133 ∷ 133 ∷ 133 ∷ 133 ∷ 133 ∷ []
   -- "else 133 with a Zone_To, 134 without".
   without-zone :
       outside ((flags 13 ∷ location-kind 0 ∷ location 0 ∷ []) ∷ []) ++ outside ([] ∷ []) ++ outside ((location-kind 1 ∷ location 7 ∷ []) ∷ [])
@@ -116,10 +117,12 @@ pub record Signs : Type 0 where
       ≡ 1 ∷ 1 ∷ 1 ∷ 1 ∷ []
   -- 135 before 136 and 133.
   negative-first : under ((flags 7 ∷ []) ∷ on 0x7F 10 20 ∷ []) ++ under ((flags 7 ∷ []) ∷ []) ≡ 135 ∷ 135 ∷ []
-  -- "no fitting positive: 136 if a positive fits in location": out of its hours, and beside another elsewhere; without a Zone_To too.
+  -- "no fitting positive: 136 if a positive fits in location": out of its hours, and beside another elsewhere; without a Zone_To too; of
+  -- the second rights.
   out-of-time :
       under (on 0x7F 10 20 ∷ []) ++ under (on 0x7F 10 20 ∷ (location-kind 1 ∷ location 8 ∷ []) ∷ []) ++ outside (on 0x7F 10 20 ∷ [])
-      ≡ 136 ∷ 136 ∷ 136 ∷ []
+      ++ told (from-new (with-fields (on 0x7F 10 20) rule ∷ site (mode 0 ∷ []) (second-rights 9 ∷ []) []) (shows 0 0x55 ∷ []))
+      ≡ 136 ∷ 136 ∷ 136 ∷ 136 ∷ []
   -- "else 133": the located one is negative, disabled, of other rights.
   not-located :
       under ((flags 3 ∷ weekdays 0x7F ∷ from-minute 10 ∷ to-minute 20 ∷ []) ∷ [])
