@@ -5,7 +5,7 @@ use mathlib.Core.Path.{_≡_, refl}
 use mathlib.Core.List.{List, [], _∷_, _++_}
 use Rattle.cases.proofs.Change.{Field, with-fields}
 use Rattle.cases.proofs.Fields.{instance, flags, passback, upper, lower, mode, factors-wanted, threat, relinquish, activation, expiry, absentee, value, tag, locked, waiting-for, uses, days, disabled, last-point}
-use Rattle.cases.proofs.Bytes.{door, hall, yard, person, card, door-state, person-state, counted, entry, shows, types, errs, site, state, passing, inside, from-state, answered, worked, bytes}
+use Rattle.cases.proofs.Bytes.{door, hall, person, card, door-state, person-state, counted, entry, shows, types, errs, site, state, passing, inside, from-state, answered, worked, bytes}
 
 pub record Answers : Type 0 where
   -- "Out of service: event 0, credential NONE, no marks, nothing changes, tag as held": though locked past its relinquish, and traced.

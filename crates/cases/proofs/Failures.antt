@@ -4,7 +4,7 @@ use Prim.Native.Nat.{ℕ}
 use mathlib.Core.Path.{_≡_, refl}
 use mathlib.Core.List.{List, [], _∷_, _++_}
 use Rattle.cases.proofs.Change.{Field}
-use Rattle.cases.proofs.Fields.{flags, mode, factors-wanted, factor-timeout, most, window, expiry, factor-disable, failures, waiting-for, waiting-since, disabled}
+use Rattle.cases.proofs.Fields.{flags, mode, factors-wanted, factor-timeout, most, window, factor-disable, failures, waiting-for, waiting-since, disabled}
 use Rattle.cases.proofs.Bytes.{shows, types, errs, site, state, from-state, worked, bytes}
 
 -- An unknown card at a time, where point 2 locks at the third failure, has failures since 900, and other fields are changed.

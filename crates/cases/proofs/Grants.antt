@@ -2,9 +2,9 @@
 use Prim.Native.Nat.{ℕ}
 use mathlib.Core.Path.{_≡_, refl}
 use mathlib.Core.List.{List, [], _∷_, _++_}
-use Rattle.cases.proofs.Change.{Field, with-fields}
-use Rattle.cases.proofs.Fields.{flags, mode, zone-to, zone-from, most, failures, uses, days, last-use, in-zone, disabled}
-use Rattle.cases.proofs.Bytes.{hall, counted, shows, site, state, passing, inside, from-state, answered, worked, bytes}
+use Rattle.cases.proofs.Change.{Field}
+use Rattle.cases.proofs.Fields.{flags, passback, mode, factors-wanted, zone-to, zone-from, most, failures, uses, days, last-use, in-zone, disabled}
+use Rattle.cases.proofs.Bytes.{shows, site, state, passing, inside, from-state, answered, worked, bytes}
 
 -- Point 2 from zone 8 into zone 7 with count adjust, and other flags; 5 in zone 7, 3 in zone 8, credential 5 in zone 8.
 unfoldable pub through : List Field → List Field → List Field → List (List ℕ)
@@ -130,10 +130,11 @@ pub record Used : Type 0 where
       ≡ granted ++ (0x0008_0007_00000064_003FFFFF_00000258_0001_00_00_00000002_0000000000000000 ∷ 0 ∷ 0 ∷ granted)
       ++ (0x0008_0000_00000064_003FFFFF_00000258_0001_00_00_00000002_0000000000000000 ∷ 0 ∷ 0 ∷ granted)
       ++ (0x0008_FFFF_00000064_003FFFFF_00000258_0001_00_00_00000002_0000000000000000 ∷ 0 ∷ 0 ∷ [])
-  -- A clock set back over midnight; days on the next day, limited and unlimited.
+  -- A clock set back over midnight; the second day, where the zone was entered on the first; days on the next day, limited and unlimited.
   other-days :
-      after (last-use 86400 ∷ []) 86399 ++ after (days 65534 ∷ []) 86400 ++ after (days 65535 ∷ []) 86400
+      after (last-use 86400 ∷ []) 86399 ++ after (last-use 86400 ∷ []) 86401 ++ after (days 65534 ∷ []) 86400 ++ after (days 65535 ∷ []) 86400
       ≡ granted ++ (0x0008_0008_0001517F_003FFFFF_00000258_0001_00_00_00000002_0000000000000000 ∷ 0 ∷ 0 ∷ granted)
+      ++ (0x0008_0008_00015181_003FFFFF_00000258_0001_00_00_00000002_0000000000000000 ∷ 0 ∷ 0 ∷ granted)
       ++ (0x0008_FFFD_00015180_003FFFFF_00000258_0001_00_00_00000002_0000000000000000 ∷ 0 ∷ 0 ∷ granted)
       ++ (0x0008_FFFF_00015180_003FFFFF_00000258_0001_00_00_00000002_0000000000000000 ∷ 0 ∷ 0 ∷ [])
 
@@ -160,7 +161,16 @@ pub record Flagged : Type 0 where
   marks-denied :
       answered (from-state (site (flags 0x10 ∷ []) (flags 0x10 ∷ []) []) (state [] (disabled 1 ∷ [])) (shows 701 0x55 ∷ []))
       ≡ 0x009E_01_00_0000000B_00000005_00000000 ∷ []
+  -- The wait for a second factor is no grant: no count, no mark but trace.
+  waiting :
+      worked
+      (from-state (passing (passback 2 ∷ []) [] (flags 0x18 ∷ factors-wanted 2 ∷ []) (flags 0x18 ∷ [])) (inside 5 3 []) (shows 1001 0x55 ∷ []))
+      ≡ 0x0000_03_00_0000000B_00000005_00000005
+      ∷ 0x00000005_00000000000000000000000000000000000000000000000000000000
+      ∷ 0x00000003_00000000000000000000000000000000000000000000000000000000
+      ∷ 0x0000000B_00_00_0000_000003E8_00000384_00000005_000003E9_0000000000000000
+      ∷ 0x0009_0008_000002BC_00000007_000003E8_0080_00_00_003FFFFF_0000000000000000 ∷ 0 ∷ 0 ∷ []
 
 pub flagged : Flagged
 unfolding bytes granted
-flagged = record { failures-end = refl; marks = refl; marks-denied = refl }
+flagged = record { failures-end = refl; marks = refl; marks-denied = refl; waiting = refl }

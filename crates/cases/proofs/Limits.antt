@@ -4,7 +4,7 @@ use mathlib.Core.Path.{_≡_, refl}
 use mathlib.Core.List.{List, [], _∷_, _++_}
 use Rattle.cases.proofs.Change.{Field}
 use Rattle.cases.proofs.Fields.{flags, passback, upper, lower, passback-timeout, mode, zone-to, zone-from, threat, in-zone, entered, disabled}
-use Rattle.cases.proofs.Bytes.{hall, yard, counted, shows, site, state, passing, inside, from-state, answered, told, worked, bytes}
+use Rattle.cases.proofs.Bytes.{shows, passing, inside, from-state, answered, told, worked, bytes}
 
 -- ── passback
 
@@ -54,7 +54,9 @@ pub record Passback : Type 0 where
   other-zones :
       again (flags 0 ∷ passback 1 ∷ []) [] [] 1001
       ++ answered (from-state (passing [] (passback 1 ∷ []) [] []) (inside 0 0 []) (shows 1001 0x55 ∷ []))
-      ++ answered (from-state (passing (passback 1 ∷ []) (passback 1 ∷ []) (zone-to 4194303 ∷ []) []) (inside 0 0 (in-zone 4194303 ∷ [])) (shows 1001 0x55 ∷ []))
+      ++ answered
+      (from-state (passing (passback 1 ∷ []) (passback 1 ∷ []) (zone-to 4194303 ∷ []) []) (inside 0 0 (in-zone 4194303 ∷ []))
+      (shows 1001 0x55 ∷ []))
       ≡ denied ++ granted ++ granted
   -- 133 before 138. "soft mark 4" where the checks came to it: not before 158, 128, 137 and 133, nor for masters.
   before :

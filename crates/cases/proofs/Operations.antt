@@ -2,7 +2,7 @@
 use Prim.Native.Nat.{ℕ}
 use mathlib.Core.Path.{_≡_, refl}
 use mathlib.Core.List.{List, [], _∷_, _++_}
-use Rattle.cases.proofs.Change.{Field, with-fields}
+use Rattle.cases.proofs.Change.{Field}
 use Rattle.cases.proofs.Fields.{flags, most, relinquish, zone-to, tag, failures, locked, waiting-for, last-point, in-zone, entered}
 use Rattle.cases.proofs.Bytes.{counted, entry, state, passing, inside, from-state, answered, worked, bytes}
 

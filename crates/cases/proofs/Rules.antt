@@ -45,7 +45,9 @@ rights = record { of-both = refl; enabled = refl; a-credential = refl }
 
 pub record Locations : Type 0 where
   -- "A location fits if everywhere, this point, or its Zone_To."
-  fits : under ((flags 13 ∷ location-kind 0 ∷ location 0 ∷ []) ∷ []) ++ under ([] ∷ []) ++ under ((location-kind 1 ∷ location 7 ∷ []) ∷ []) ≡ 1 ∷ 1 ∷ 1 ∷ []
+  fits :
+      under ((flags 13 ∷ location-kind 0 ∷ location 0 ∷ []) ∷ []) ++ under ([] ∷ []) ++ under ((location-kind 1 ∷ location 7 ∷ []) ∷ [])
+      ≡ 1 ∷ 1 ∷ 1 ∷ []
   -- Zone_From does not; nor other points, a point with the number of Zone_To, a zone with the number of the point.
   elsewhere :
       under ((location-kind 1 ∷ location 8 ∷ []) ∷ [])
