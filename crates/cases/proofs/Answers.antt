@@ -4,8 +4,8 @@ use Prim.Native.Nat.{ℕ}
 use mathlib.Core.Path.{_≡_, refl}
 use mathlib.Core.List.{List, [], _∷_, _++_}
 use Rattle.cases.proofs.Change.{Field, with-fields}
-use Rattle.cases.proofs.Fields.{instance, flags, passback, upper, lower, mode, factors-wanted, threat, relinquish, activation, expiry, absentee, value, tag, locked, waiting-for, uses, days, disabled, last-point}
-use Rattle.cases.proofs.Bytes.{door, hall, person, card, door-state, person-state, counted, entry, shows, types, errs, site, state, passing, inside, from-state, answered, worked, bytes}
+use Rattle.cases.proofs.Fields.{instance, flags, passback, upper, lower, mode, factors-wanted, threat, relinquish, activation, expiry, absentee, first-rights, value, tag, locked, waiting-for, uses, days, disabled, last-point}
+use Rattle.cases.proofs.Bytes.{door, hall, rule, person, card, door-state, person-state, counted, entry, shows, types, errs, site, state, passing, inside, from-state, from-new, answered, worked, bytes}
 
 pub record Answers : Type 0 where
   -- "Out of service: event 0, credential NONE, no marks, nothing changes, tag as held": though locked past its relinquish, and traced.
@@ -54,6 +54,11 @@ unfoldable pub tracing-through : ℕ → List Field → List Field → List Fiel
 tracing-through to hs ys ds =
     answered (from-state (passing hs ys ds (flags 8 ∷ [])) (inside to 3 []) (shows 1001 0x55 ∷ []))
 
+-- The same from fresh in AUTHORIZE, where credential 5 has rights 9 and fields of their rule are changed.
+unfoldable pub tracing-by : List Field → List ℕ
+tracing-by rs =
+    answered (from-new (with-fields rs rule ∷ site (mode 0 ∷ []) (flags 8 ∷ first-rights 9 ∷ []) []) (shows 1001 0x55 ∷ []))
+
 pub record Named : Type 0 where
   -- "The answer names .. the one that step 3 matched": on every denial of step 5.
   step-5 :
@@ -66,11 +71,12 @@ pub record Named : Type 0 where
   -- Of steps 7 to 11.
   later-steps :
       tracing (mode 2 ∷ []) [] [] ++ tracing (threat 1 ∷ []) [] [] ++ tracing (mode 0 ∷ []) [] []
+      ++ tracing-by (flags 7 ∷ []) ++ tracing-by (flags 1 ∷ [])
       ++ tracing-through 3 [] [] (mode 0 ∷ []) ++ tracing-through 3 (passback 1 ∷ []) [] []
       ++ tracing-through 3 [] (lower 3 ∷ []) (flags 4 ∷ []) ++ tracing-through 3 (upper 3 ∷ []) [] (flags 2 ∷ [])
       ++ tracing-through 0xFFFFFFFF [] [] (flags 8 ∷ [])
       ≡ 0x0080_03_00_0000000B_00000005_00000000 ∷ 0x0089_03_00_0000000B_00000005_00000000 ∷ 0x0086_03_00_0000000B_00000005_00000000
-      ∷ 0x0085_03_00_0000000B_00000005_00000003 ∷ 0x008A_03_00_0000000B_00000005_00000003 ∷ 0x008D_03_00_0000000B_00000005_00000003
+      ∷ 0x0087_03_00_00000001_00000005_00000000 ∷ 0x0088_03_00_00000001_00000005_00000000 ∷ 0x0085_03_00_0000000B_00000005_00000003 ∷ 0x008A_03_00_0000000B_00000005_00000003 ∷ 0x008D_03_00_0000000B_00000005_00000003
       ∷ 0x008E_03_00_0000000B_00000005_00000003 ∷ 0x00A4_03_00_0000000B_00000005_FFFFFFFF ∷ []
   -- "the credential waited for": the wait ends with 164, the last of the denials.
   waited-for :
@@ -84,7 +90,7 @@ pub record Named : Type 0 where
       ∷ 0x0009_0008_000003E9_003FFFFF_00000258_00A4_00_00_00000002_0000000000000000 ∷ 0 ∷ 0 ∷ []
 
 pub named : Named
-unfolding bytes tracing tracing-through
+unfolding bytes tracing tracing-through tracing-by
 named = record { step-5 = refl; later-steps = refl; waited-for = refl }
 
 -- ── whose records

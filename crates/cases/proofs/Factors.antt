@@ -4,7 +4,7 @@ use mathlib.Core.Path.{_≡_, refl}
 use mathlib.Core.List.{List, [], _∷_, _++_}
 use Rattle.cases.proofs.Change.{with-fields}
 use Rattle.cases.proofs.Fields.{instance, passback, upper, passback-timeout, mode, factors-wanted, factor-timeout, expiry, factor-disable, value, waiting-for, waiting-since}
-use Rattle.cases.proofs.Bytes.{door, hall, person, card, pin, shows, types, errs, site, state, from-state, from-new, told, worked, bytes}
+use Rattle.cases.proofs.Bytes.{door, hall, person, card, pin, shows, types, errs, site, state, from-state, from-new, answered, told, worked, bytes}
 
 -- Point 2 wants two factors within 30 seconds. It waits for credential 5 since 1000, or for nobody.
 unfoldable pub two : List (List ℕ)
@@ -45,6 +45,11 @@ pub record Step-2 : Type 0 where
   set-back : told (from-state two waits (types 500 0x66 ∷ [])) ≡ 1 ∷ []
   -- "a set timeout": 0 means unlimited.
   unset : told (from-state (site (factors-wanted 2 ∷ []) [] []) waits (types 4294967294 0x66 ∷ [])) ≡ 1 ∷ []
+  -- A timeout of one second.
+  shortest :
+      told (from-state (site (factors-wanted 2 ∷ factor-timeout 1 ∷ []) [] []) waits (types 1001 0x66 ∷ []))
+      ++ told (from-state (site (factors-wanted 2 ∷ factor-timeout 1 ∷ []) [] []) waits (types 1002 0x66 ∷ []))
+      ≡ 1 ∷ 131 ∷ []
   -- "Waiting": where nobody is waited for, no time is up.
   nobody :
       worked (from-state two idle (shows 2000 0x55 ∷ []))
@@ -76,6 +81,7 @@ step-2 =
       late = refl;
       set-back = refl;
       unset = refl;
+      shortest = refl;
       nobody = refl;
       late-first = refl;
       error-waiting = refl;
@@ -112,13 +118,14 @@ pub record Step-3 : Type 0 where
       ≡ 129 ∷ 129 ∷ 129 ∷ 129 ∷ 129 ∷ 1 ∷ []
   -- "Disabled factor: 1→147, 2→143, 3→144, 4→145, 5→146."
   disables :
-      told
+      answered
       (from-new
       (door ∷ person ∷ with-fields (value 1 ∷ factor-disable 1 ∷ []) card ∷ with-fields (value 2 ∷ factor-disable 2 ∷ []) card
       ∷ with-fields (value 3 ∷ factor-disable 3 ∷ []) card ∷ with-fields (value 4 ∷ factor-disable 4 ∷ []) card
       ∷ with-fields (value 5 ∷ factor-disable 5 ∷ []) card ∷ [])
       (shows 0 1 ∷ shows 0 2 ∷ shows 0 3 ∷ shows 0 4 ∷ shows 0 5 ∷ []))
-      ≡ 147 ∷ 143 ∷ 144 ∷ 145 ∷ 146 ∷ []
+      ≡ 0x0093_01_00_00000001_00000005_00000000 ∷ 0x008F_01_00_00000002_00000005_00000000 ∷ 0x0090_01_00_00000003_00000005_00000000
+      ∷ 0x0091_01_00_00000004_00000005_00000000 ∷ 0x0092_01_00_00000005_00000005_00000000 ∷ []
   -- 147 before the wait of step 4 and before 152.
   disabled :
       worked (from-state two-disabled idle (shows 1010 0x55 ∷ []))

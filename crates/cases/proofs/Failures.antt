@@ -26,6 +26,11 @@ pub record Counted : Type 0 where
       failed (window 100 ∷ []) 1 1001 ++ failed (window 100 ∷ []) 2 1001
       ≡ 0x0081_01_00_0000000B_003FFFFF_00000000 ∷ 0x0000000B_01_00_0000_000003E8_000003E9_003FFFFF_00000320_0000000000000000 ∷ rest
       ++ (0x0081_01_00_0000000B_003FFFFF_00000000 ∷ 0x0000000B_01_00_0000_000003E8_000003E9_003FFFFF_00000320_0000000000000000 ∷ rest)
+  -- A window of one second.
+  window-shortest :
+      failed (window 1 ∷ []) 1 901 ++ failed (window 1 ∷ []) 1 902
+      ≡ 0x0081_01_00_0000000B_003FFFFF_00000000 ∷ 0x0000000B_02_00_0000_000003E8_00000384_003FFFFF_00000320_0000000000000000 ∷ rest
+      ++ (0x0081_01_00_0000000B_003FFFFF_00000000 ∷ 0x0000000B_01_00_0000_000003E8_00000386_003FFFFF_00000320_0000000000000000 ∷ rest)
   -- "a set window": 0 means unlimited.
   window-unset :
       failed [] 1 4294967294
@@ -53,6 +58,7 @@ counted-failures =
     record {
       added = refl;
       window-over = refl;
+      window-shortest = refl;
       window-unset = refl;
       first = refl;
       at-the-most = refl;

@@ -32,6 +32,9 @@ pub record Passback : Type 0 where
       again (passback 1 ∷ passback-timeout 10 ∷ []) [] [] 1599 ++ again (passback 1 ∷ passback-timeout 10 ∷ []) [] [] 1600
       ++ again (passback 1 ∷ passback-timeout 10 ∷ []) [] [] 500
       ≡ denied ++ granted ++ denied
+  shortest :
+      again (passback 1 ∷ passback-timeout 1 ∷ []) [] [] 1059 ++ again (passback 1 ∷ passback-timeout 1 ∷ []) [] [] 1060
+      ≡ denied ++ granted
   timed-soft :
       again (passback 2 ∷ passback-timeout 10 ∷ []) [] [] 1599 ++ again (passback 2 ∷ passback-timeout 10 ∷ []) [] [] 1600
       ≡ detected ++ granted
@@ -75,6 +78,7 @@ passback-cases =
     record {
       kinds = refl;
       timed = refl;
+      shortest = refl;
       timed-soft = refl;
       long = refl;
       exempt = refl;
@@ -94,8 +98,8 @@ pub record Limits : Type 0 where
   -- "lower enforced, Zone_From counting, lower set, count ≤ lower: 141".
   lowest :
       full 9 2 [] (lower 3 ∷ []) (flags 4 ∷ []) [] ++ full 9 3 [] (lower 3 ∷ []) (flags 4 ∷ []) []
-      ++ full 9 4 [] (lower 3 ∷ []) (flags 4 ∷ []) []
-      ≡ 141 ∷ 141 ∷ 1 ∷ []
+      ++ full 9 4 [] (lower 3 ∷ []) (flags 4 ∷ []) [] ++ full 9 1 [] (lower 1 ∷ []) (flags 4 ∷ []) []
+      ≡ 141 ∷ 141 ∷ 1 ∷ 141 ∷ []
   -- Exempt, by flag 2 and no other; upper enforced alone; a zone that does not count; unset; the limit of the other zone; no Zone_From.
   lowest-unless :
       full 9 2 [] (lower 3 ∷ []) (flags 4 ∷ []) (flags 4 ∷ []) ++ full 9 2 [] (lower 3 ∷ []) (flags 4 ∷ []) (flags 0x1A ∷ [])
@@ -106,8 +110,8 @@ pub record Limits : Type 0 where
   -- "then upper likewise for Zone_To, count ≥ upper: 142".
   highest :
       full 2 9 (upper 3 ∷ []) [] (flags 2 ∷ []) [] ++ full 3 9 (upper 3 ∷ []) [] (flags 2 ∷ []) []
-      ++ full 4 9 (upper 3 ∷ []) [] (flags 2 ∷ []) []
-      ≡ 1 ∷ 142 ∷ 142 ∷ []
+      ++ full 4 9 (upper 3 ∷ []) [] (flags 2 ∷ []) [] ++ full 1 9 (upper 1 ∷ []) [] (flags 2 ∷ []) []
+      ≡ 1 ∷ 142 ∷ 142 ∷ 142 ∷ []
   highest-unless :
       full 3 9 (upper 3 ∷ []) [] (flags 2 ∷ []) (flags 4 ∷ []) ++ full 3 9 (upper 3 ∷ []) [] (flags 2 ∷ []) (flags 0x1A ∷ [])
       ++ full 3 9 (upper 3 ∷ []) [] (flags 0x1C ∷ []) [] ++ full 3 9 (flags 0 ∷ upper 3 ∷ []) [] (flags 2 ∷ []) []

@@ -26,6 +26,9 @@ pub record Locked : Type 0 where
       ∷ 0x0009_0008_000002BC_003FFFFF_00000258_0080_00_00_003FFFFF_0000000000000000 ∷ 0 ∷ 0 ∷ []
   -- "relinquish set": 0 means unlimited.
   unset : told (from-state (site (most 3 ∷ []) [] []) shut (shows 4294967294 0x55 ∷ [])) ≡ 161 ∷ []
+  -- A relinquish of one second.
+  shortest :
+      told (from-state (site (most 3 ∷ relinquish 1 ∷ []) [] []) shut (shows 1000 0x55 ∷ shows 1001 0x55 ∷ [])) ≡ 161 ∷ 1 ∷ []
   -- "elapsed ≥ it: unlock, failures 0, mark 64": after 60 seconds.
   relinquished :
       worked (from-state locking shut (shows 1060 0x55 ∷ []))
@@ -70,6 +73,7 @@ locked-cases =
       still = refl;
       still-left = refl;
       unset = refl;
+      shortest = refl;
       relinquished = refl;
       denied-after = refl;
       failed-after = refl;
