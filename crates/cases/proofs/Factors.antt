@@ -3,7 +3,7 @@ use Prim.Native.Nat.{ℕ}
 use mathlib.Core.Path.{_≡_, refl}
 use mathlib.Core.List.{List, [], _∷_, _++_}
 use Rattle.cases.proofs.Change.{with-fields}
-use Rattle.cases.proofs.Fields.{instance, passback, upper, passback-timeout, mode, factors-wanted, factor-timeout, expiry, factor-disable, value, waiting-for, waiting-since}
+use Rattle.cases.proofs.Fields.{instance, passback, upper, passback-timeout, mode, factors-wanted, factor-timeout, expiry, factor-disable, value, lock-time, waiting-for, waiting-since}
 use Rattle.cases.proofs.Bytes.{door, hall, person, card, pin, shows, types, errs, site, state, from-state, from-new, answered, told, worked, bytes}
 
 -- Point 2 wants two factors within 30 seconds. It waits for credential 5 since 1000, or for nobody.
@@ -45,6 +45,8 @@ pub record Step-2 : Type 0 where
   set-back : told (from-state two waits (types 500 0x66 ∷ [])) ≡ 1 ∷ []
   -- "a set timeout": 0 means unlimited.
   unset : told (from-state (site (factors-wanted 2 ∷ []) [] []) waits (types 4294967294 0x66 ∷ [])) ≡ 1 ∷ []
+  -- The time is that of the wait.
+  since : told (from-state two (state (waiting-for 5 ∷ waiting-since 1000 ∷ lock-time 500 ∷ []) []) (types 1030 0x66 ∷ [])) ≡ 1 ∷ []
   -- A timeout of one second.
   shortest :
       told (from-state (site (factors-wanted 2 ∷ factor-timeout 1 ∷ []) [] []) waits (types 1001 0x66 ∷ []))
@@ -81,6 +83,7 @@ step-2 =
       late = refl;
       set-back = refl;
       unset = refl;
+      since = refl;
       shortest = refl;
       nobody = refl;
       late-first = refl;

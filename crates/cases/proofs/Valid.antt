@@ -42,7 +42,8 @@ pub record Valid : Type 0 where
       shown (absentee 2 ∷ []) [] 173500 ++ shown (absentee 2 ∷ []) [] 173501 ++ shown (absentee 2 ∷ []) [] 500 ≡ 1 ∷ 157 ∷ 1 ∷ []
   absent-at-once :
       shown (absentee 0 ∷ []) [] 700 ++ shown (absentee 0 ∷ []) [] 701 ++ shown (absentee 0 ∷ []) (last-use 65535 ∷ []) 65536
-      ≡ 1 ∷ 157 ∷ 157 ∷ []
+      ++ shown (absentee 0 ∷ []) (last-use 4194303 ∷ []) 4194304
+      ≡ 1 ∷ 157 ∷ 157 ∷ 157 ∷ []
   -- "last use known"; "65,535 unlimited, absent"; days that pass four bytes of seconds, and the last that do not.
   never-used : shown (absentee 0 ∷ []) (last-use 0xFFFFFFFF ∷ []) 4294967294 ≡ 1 ∷ []
   long-absent :
