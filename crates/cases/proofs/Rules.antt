@@ -34,6 +34,11 @@ pub record Rights : Type 0 where
   of-both :
       holding 9 4194303 ++ holding 4194303 9 ++ holding 9 9 ++ holding 10 9 ++ holding 10 11 ++ holding 4194303 4194303
       ≡ 1 ∷ 1 ∷ 1 ∷ 1 ∷ 134 ∷ 134 ∷ []
+  -- "real instances are smaller" than NONE: the first and the last of them.
+  real :
+      told (from-new (with-fields (instance 0 ∷ []) rule ∷ site (mode 0 ∷ []) (first-rights 0 ∷ []) []) (shows 0 0x55 ∷ []))
+      ++ told (from-new (with-fields (instance 4194302 ∷ []) rule ∷ site (mode 0 ∷ []) (second-rights 4194302 ∷ []) []) (shows 0 0x55 ∷ []))
+      ≡ 1 ∷ 1 ∷ []
   -- "enabled".
   enabled : under ([] ∷ []) ++ under ((flags 4 ∷ []) ∷ []) ≡ 1 ∷ 133 ∷ []
   -- "Instances are numbered per object type": a credential 9 with the flags of a rule is none.
@@ -41,7 +46,7 @@ pub record Rights : Type 0 where
 
 pub rights : Rights
 unfolding bytes ruled under holding
-rights = record { of-both = refl; enabled = refl; a-credential = refl }
+rights = record { of-both = refl; real = refl; enabled = refl; a-credential = refl }
 
 pub record Locations : Type 0 where
   -- "A location fits if everywhere, this point, or its Zone_To."
