@@ -53,6 +53,14 @@ pub record Locations : Type 0 where
   fits :
       under ((flags 13 ∷ location-kind 0 ∷ location 0 ∷ []) ∷ []) ++ under ([] ∷ []) ++ under ((location-kind 1 ∷ location 7 ∷ []) ∷ [])
       ≡ 1 ∷ 1 ∷ 1 ∷ []
+  -- The zone of the last real instance.
+  last-zone :
+      told
+      (from-new
+      (with-fields (location-kind 1 ∷ location 4194302 ∷ []) rule ∷ with-fields (instance 4194302 ∷ []) hall
+      ∷ site (mode 0 ∷ zone-to 4194302 ∷ []) (first-rights 9 ∷ []) [])
+      (shows 0 0x55 ∷ []))
+      ≡ 1 ∷ []
   -- Zone_From does not; nor other points, a point with the number of Zone_To, a zone with the number of the point.
   elsewhere :
       under ((location-kind 1 ∷ location 8 ∷ []) ∷ [])
@@ -68,7 +76,7 @@ pub record Locations : Type 0 where
 
 pub locations : Locations
 unfolding bytes ruled under outside
-locations = record { fits = refl; elsewhere = refl; without-zone = refl }
+locations = record { fits = refl; last-zone = refl; elsewhere = refl; without-zone = refl }
 
 -- An enabled rule at point 2 on these days, from a minute to another.
 abbrev on : ℕ → ℕ → ℕ → List Field
