@@ -4,7 +4,7 @@ use mathlib.Core.Path.{_≡_, refl}
 use mathlib.Core.List.{List, [], _∷_, _++_, map}
 use Rattle.cases.proofs.Change.{Field, with-fields}
 use Rattle.cases.proofs.Fields.{instance, flags, mode, zone-to, zone-from, location-kind, weekdays, location, from-minute, to-minute, first-rights, second-rights}
-use Rattle.cases.proofs.Bytes.{door, hall, yard, rule, person, shows, site, from-new, told, bytes}
+use Rattle.cases.proofs.Bytes.{door, hall, yard, rule, person, entry, shows, site, from-new, told, bytes}
 
 -- The site of point 2 in AUTHORIZE, from zone 8 into zone 7, where credential 5 has rights 9; rules with fields changed, and other objects.
 unfoldable pub ruled : List (List Field) → List (List ℕ) → List (List ℕ)
@@ -53,6 +53,13 @@ pub record Locations : Type 0 where
   fits :
       under ((flags 13 ∷ location-kind 0 ∷ location 0 ∷ []) ∷ []) ++ under ([] ∷ []) ++ under ((location-kind 1 ∷ location 7 ∷ []) ∷ [])
       ≡ 1 ∷ 1 ∷ 1 ∷ []
+  -- Another point, whose number is not the card's format.
+  another-point :
+      told
+      (from-new
+      (with-fields (location 3 ∷ []) rule ∷ with-fields (instance 3 ∷ mode 0 ∷ []) door ∷ site [] (first-rights 9 ∷ []) [])
+      (entry 1 2 0 3 0 0x55 ∷ []))
+      ≡ 1 ∷ []
   -- The zone of the last real instance.
   last-zone :
       told
@@ -76,7 +83,7 @@ pub record Locations : Type 0 where
 
 pub locations : Locations
 unfolding bytes ruled under outside
-locations = record { fits = refl; last-zone = refl; elsewhere = refl; without-zone = refl }
+locations = record { fits = refl; another-point = refl; last-zone = refl; elsewhere = refl; without-zone = refl }
 
 -- An enabled rule at point 2 on these days, from a minute to another.
 abbrev on : ℕ → ℕ → ℕ → List Field
