@@ -190,11 +190,14 @@ confirmed-through hs ys ds =
     (counted 3 ∷ counted 3 ∷ state (waiting-for 5 ∷ []) (in-zone 7 ∷ entered 1000 ∷ []))
 
 pub record Ended : Type 0 where
+  -- The pin and then the card are disabled alike.
   disabled-factors :
-      confirmed (site (factors-wanted 2 ∷ []) [] (factor-disable 2 ∷ [])) waits ++ confirmed (site (factors-wanted 2 ∷ []) [] (factor-disable 3 ∷ [])) waits
+      confirmed (site (factors-wanted 2 ∷ []) [] (factor-disable 2 ∷ [])) waits
+      ++ confirmed (site (factors-wanted 2 ∷ []) [] (factor-disable 3 ∷ [])) waits
       ++ confirmed (site (factors-wanted 2 ∷ []) [] (factor-disable 4 ∷ [])) waits
       ++ confirmed (site (factors-wanted 2 ∷ []) [] (factor-disable 5 ∷ [])) waits
       ≡ 143 ∷ 143 ∷ 144 ∷ 144 ∷ 145 ∷ 145 ∷ 146 ∷ 146 ∷ []
+  -- On the denials of step 5, of steps 7 to 9 and of step 10.
   step-5 :
       confirmed-at [] (activation 2000 ∷ []) [] ++ confirmed-at [] (expiry 1000 ∷ []) [] ++ confirmed-at [] [] (disabled 1 ∷ [])
       ++ confirmed-at [] [] (disabled 2 ∷ []) ++ confirmed-at [] [] (disabled 3 ∷ []) ++ confirmed-at [] [] (days 0 ∷ [])
