@@ -2,9 +2,15 @@
 use Prim.Native.Nat.{ℕ}
 use mathlib.Core.Path.{_≡_, refl}
 use mathlib.Core.List.{List, [], _∷_, _++_}
+<<<<<<< HEAD
 use Rattle.cases.proofs.Change.{with-fields}
 use Rattle.cases.proofs.Fields.{instance, passback, upper, passback-timeout, mode, factors-wanted, factor-timeout, expiry, factor-disable, value, lock-time, waiting-for, waiting-since}
 use Rattle.cases.proofs.Bytes.{door, hall, person, card, pin, shows, types, errs, site, state, from-state, from-new, answered, told, worked, bytes}
+=======
+use Rattle.cases.proofs.Change.{Field, with-fields}
+use Rattle.cases.proofs.Fields.{instance, flags, passback, upper, lower, passback-timeout, mode, factors-wanted, threat, factor-timeout, activation, expiry, absentee, first-rights, factor-disable, value, lock-time, waiting-for, waiting-since, uses, days, in-zone, entered, disabled}
+use Rattle.cases.proofs.Bytes.{door, hall, rule, person, card, pin, counted, shows, types, errs, site, state, passing, from-state, from-new, answered, told, worked, bytes}
+>>>>>>> 396d13e2ff354fdd6d0b1ac71eae7aa0d2ac6401
 
 -- Point 2 wants two factors within 30 seconds. It waits for credential 5 since 1000, or for nobody.
 unfoldable pub two : List (List ℕ)
@@ -168,3 +174,53 @@ pub record Step-4 : Type 0 where
 pub step-4 : Step-4
 unfolding bytes waits idle
 step-4 = record { before-validity = refl; one-wanted = refl; one-wanted-waiting = refl }
+<<<<<<< HEAD
+=======
+
+-- ── "Waiting: end it": whatever comes of the second factor
+
+-- The events of the pin where point 2 waits for credential 5, and then of the card: it is the first of two again.
+unfoldable pub confirmed : List (List ℕ) → List (List ℕ) → List ℕ
+confirmed records states = told (from-state records states (types 1001 0x66 ∷ shows 1001 0x55 ∷ []))
+
+-- With fields changed of the point, of the credential and of its state; by a rule of rights 9; from zone 8 into zone 7, with both counts 3.
+unfoldable pub confirmed-at : List Field → List Field → List Field → List ℕ
+confirmed-at ds ps ss = confirmed (site (factors-wanted 2 ∷ ds) ps []) (state (waiting-for 5 ∷ []) ss)
+
+unfoldable pub confirmed-by : List Field → List ℕ
+confirmed-by rs =
+    confirmed (with-fields rs rule ∷ site (factors-wanted 2 ∷ mode 0 ∷ []) (first-rights 9 ∷ []) [])
+    (counted 0 ∷ state (waiting-for 5 ∷ []) [])
+
+unfoldable pub confirmed-through : List Field → List Field → List Field → List ℕ
+confirmed-through hs ys ds =
+    confirmed (passing hs ys (factors-wanted 2 ∷ ds) [])
+    (counted 3 ∷ counted 3 ∷ state (waiting-for 5 ∷ []) (in-zone 7 ∷ entered 1000 ∷ []))
+
+pub record Ended : Type 0 where
+  -- The pin and then the card are disabled alike.
+  disabled-factors :
+      confirmed (site (factors-wanted 2 ∷ []) [] (factor-disable 2 ∷ [])) waits
+      ++ confirmed (site (factors-wanted 2 ∷ []) [] (factor-disable 3 ∷ [])) waits
+      ++ confirmed (site (factors-wanted 2 ∷ []) [] (factor-disable 4 ∷ [])) waits
+      ++ confirmed (site (factors-wanted 2 ∷ []) [] (factor-disable 5 ∷ [])) waits
+      ≡ 143 ∷ 143 ∷ 144 ∷ 144 ∷ 145 ∷ 145 ∷ 146 ∷ 146 ∷ []
+  -- On the denials of step 5, of steps 7 to 9 and of step 10.
+  step-5 :
+      confirmed-at [] (activation 2000 ∷ []) [] ++ confirmed-at [] (expiry 1000 ∷ []) [] ++ confirmed-at [] [] (disabled 1 ∷ [])
+      ++ confirmed-at [] [] (disabled 2 ∷ []) ++ confirmed-at [] [] (disabled 3 ∷ []) ++ confirmed-at [] [] (days 0 ∷ [])
+      ++ confirmed-at [] [] (uses 0 ∷ []) ++ confirmed-at [] (absentee 0 ∷ []) []
+      ≡ 151 ∷ 0 ∷ 152 ∷ 0 ∷ 158 ∷ 0 ∷ 153 ∷ 0 ∷ 154 ∷ 0 ∷ 155 ∷ 0 ∷ 156 ∷ 0 ∷ 157 ∷ 0 ∷ []
+  steps-7-to-9 :
+      confirmed-at (mode 2 ∷ []) [] [] ++ confirmed-at (threat 1 ∷ []) [] [] ++ confirmed-by (flags 7 ∷ []) ++ confirmed-by (flags 1 ∷ [])
+      ++ confirmed-through [] [] (mode 0 ∷ []) ++ confirmed-at (mode 0 ∷ []) [] []
+      ≡ 128 ∷ 0 ∷ 137 ∷ 0 ∷ 135 ∷ 0 ∷ 136 ∷ 0 ∷ 133 ∷ 0 ∷ 134 ∷ 0 ∷ []
+  step-10 :
+      confirmed-through (passback 1 ∷ []) [] [] ++ confirmed-through [] (lower 3 ∷ []) (flags 4 ∷ [])
+      ++ confirmed-through (upper 3 ∷ []) [] (flags 2 ∷ [])
+      ≡ 138 ∷ 0 ∷ 141 ∷ 0 ∷ 142 ∷ 0 ∷ []
+
+pub ended-waits : Ended
+unfolding bytes waits confirmed confirmed-at confirmed-by confirmed-through
+ended-waits = record { disabled-factors = refl; step-5 = refl; steps-7-to-9 = refl; step-10 = refl }
+>>>>>>> 396d13e2ff354fdd6d0b1ac71eae7aa0d2ac6401

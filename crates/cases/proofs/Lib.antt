@@ -24,4 +24,7 @@ pub mod Grants
 pub mod Failures
 pub mod Operations
 pub mod Answers
+<<<<<<< HEAD
 pub mod SelfContained
+=======
+>>>>>>> 396d13e2ff354fdd6d0b1ac71eae7aa0d2ac6401
