@@ -2,15 +2,9 @@
 use Prim.Native.Nat.{ℕ}
 use mathlib.Core.Path.{_≡_, refl}
 use mathlib.Core.List.{List, [], _∷_, _++_}
-<<<<<<< HEAD
-use Rattle.cases.proofs.Change.{with-fields}
-use Rattle.cases.proofs.Fields.{instance, passback, upper, passback-timeout, mode, factors-wanted, factor-timeout, expiry, factor-disable, value, lock-time, waiting-for, waiting-since}
-use Rattle.cases.proofs.Bytes.{door, hall, person, card, pin, shows, types, errs, site, state, from-state, from-new, answered, told, worked, bytes}
-=======
 use Rattle.cases.proofs.Change.{Field, with-fields}
 use Rattle.cases.proofs.Fields.{instance, flags, passback, upper, lower, passback-timeout, mode, factors-wanted, threat, factor-timeout, activation, expiry, absentee, first-rights, factor-disable, value, lock-time, waiting-for, waiting-since, uses, days, in-zone, entered, disabled}
 use Rattle.cases.proofs.Bytes.{door, hall, rule, person, card, pin, counted, shows, types, errs, site, state, passing, from-state, from-new, answered, told, worked, bytes}
->>>>>>> 396d13e2ff354fdd6d0b1ac71eae7aa0d2ac6401
 
 -- Point 2 wants two factors within 30 seconds. It waits for credential 5 since 1000, or for nobody.
 unfoldable pub two : List (List ℕ)
@@ -174,8 +168,6 @@ pub record Step-4 : Type 0 where
 pub step-4 : Step-4
 unfolding bytes waits idle
 step-4 = record { before-validity = refl; one-wanted = refl; one-wanted-waiting = refl }
-<<<<<<< HEAD
-=======
 
 -- ── "Waiting: end it": whatever comes of the second factor
 
@@ -223,4 +215,3 @@ pub record Ended : Type 0 where
 pub ended-waits : Ended
 unfolding bytes waits confirmed confirmed-at confirmed-by confirmed-through
 ended-waits = record { disabled-factors = refl; step-5 = refl; steps-7-to-9 = refl; step-10 = refl }
->>>>>>> 396d13e2ff354fdd6d0b1ac71eae7aa0d2ac6401

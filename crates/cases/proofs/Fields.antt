@@ -95,25 +95,6 @@ first-rights v = (24, 4, v)
 abbrev pub second-rights : ℕ → Field
 second-rights v = (28, 4, v)
 
-<<<<<<< HEAD
--- Factor: "2: role .. 3: disable .. 8 format .. 16 value".
-abbrev pub role : ℕ → Field
-role v = (2, 1, v)
-
-abbrev pub factor-disable : ℕ → Field
-factor-disable v = (3, 1, v)
-
-abbrev pub format : ℕ → Field
-format v = (8, 1, v)
-
-abbrev pub value : ℕ → Field
-value v = (16, 8, v)
-
--- State of a zone: "0 count". Of a point: "0 tag, 4 failures, 5 locked, 8 lock time, 12 first failure, 16 waiting credential, 20 waiting since".
-abbrev pub count : ℕ → Field
-count v = (0, 4, v)
-
-=======
 -- Factor: "3: disable .. 16 value".
 abbrev pub factor-disable : ℕ → Field
 factor-disable v = (3, 1, v)
@@ -122,7 +103,6 @@ abbrev pub value : ℕ → Field
 value v = (16, 8, v)
 
 -- State of a point: "0 tag, 4 failures, 5 locked, 8 lock time, 12 first failure, 16 waiting credential, 20 waiting since".
->>>>>>> 396d13e2ff354fdd6d0b1ac71eae7aa0d2ac6401
 abbrev pub tag : ℕ → Field
 tag v = (0, 4, v)
 
@@ -135,12 +115,6 @@ locked v = (5, 1, v)
 abbrev pub lock-time : ℕ → Field
 lock-time v = (8, 4, v)
 
-<<<<<<< HEAD
-abbrev pub first-failure : ℕ → Field
-first-failure v = (12, 4, v)
-
-=======
->>>>>>> 396d13e2ff354fdd6d0b1ac71eae7aa0d2ac6401
 abbrev pub waiting-for : ℕ → Field
 waiting-for v = (16, 4, v)
 
@@ -163,12 +137,6 @@ in-zone v = (8, 4, v)
 abbrev pub entered : ℕ → Field
 entered v = (12, 4, v)
 
-<<<<<<< HEAD
-abbrev pub last-event : ℕ → Field
-last-event v = (16, 2, v)
-
-=======
->>>>>>> 396d13e2ff354fdd6d0b1ac71eae7aa0d2ac6401
 abbrev pub disabled : ℕ → Field
 disabled v = (18, 1, v)
 

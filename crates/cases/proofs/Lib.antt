@@ -1,6 +1,4 @@
 pub mod Change
-pub mod Unearned
-pub mod Tallies
 pub mod Records
 pub mod Octets
 pub mod SiteFields
@@ -10,8 +8,6 @@ pub mod States
 pub mod Panels
 pub mod Entries
 pub mod TurnedBack
-pub mod Runs
-pub mod Printed
 pub mod Fields
 pub mod Bytes
 pub mod Locked
@@ -24,7 +20,8 @@ pub mod Grants
 pub mod Failures
 pub mod Operations
 pub mod Answers
-<<<<<<< HEAD
+pub mod Runs
+pub mod Printed
+pub mod Tallies
 pub mod SelfContained
-=======
->>>>>>> 396d13e2ff354fdd6d0b1ac71eae7aa0d2ac6401
+pub mod Unearned

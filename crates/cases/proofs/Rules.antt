@@ -4,11 +4,7 @@ use mathlib.Core.Path.{_≡_, refl}
 use mathlib.Core.List.{List, [], _∷_, _++_, map}
 use Rattle.cases.proofs.Change.{Field, with-fields}
 use Rattle.cases.proofs.Fields.{instance, flags, mode, zone-to, zone-from, location-kind, weekdays, location, from-minute, to-minute, first-rights, second-rights}
-<<<<<<< HEAD
-use Rattle.cases.proofs.Bytes.{door, hall, yard, rule, person, shows, site, from-new, told, bytes}
-=======
 use Rattle.cases.proofs.Bytes.{door, hall, yard, rule, person, entry, shows, site, from-new, told, bytes}
->>>>>>> 396d13e2ff354fdd6d0b1ac71eae7aa0d2ac6401
 
 -- The site of point 2 in AUTHORIZE, from zone 8 into zone 7, where credential 5 has rights 9; rules with fields changed, and other objects.
 unfoldable pub ruled : List (List Field) → List (List ℕ) → List (List ℕ)
@@ -38,14 +34,11 @@ pub record Rights : Type 0 where
   of-both :
       holding 9 4194303 ++ holding 4194303 9 ++ holding 9 9 ++ holding 10 9 ++ holding 10 11 ++ holding 4194303 4194303
       ≡ 1 ∷ 1 ∷ 1 ∷ 1 ∷ 134 ∷ 134 ∷ []
-<<<<<<< HEAD
-=======
   -- "real instances are smaller" than NONE: the first and the last of them.
   real :
       told (from-new (with-fields (instance 0 ∷ []) rule ∷ site (mode 0 ∷ []) (first-rights 0 ∷ []) []) (shows 0 0x55 ∷ []))
       ++ told (from-new (with-fields (instance 4194302 ∷ []) rule ∷ site (mode 0 ∷ []) (second-rights 4194302 ∷ []) []) (shows 0 0x55 ∷ []))
       ≡ 1 ∷ 1 ∷ []
->>>>>>> 396d13e2ff354fdd6d0b1ac71eae7aa0d2ac6401
   -- "enabled".
   enabled : under ([] ∷ []) ++ under ((flags 4 ∷ []) ∷ []) ≡ 1 ∷ 133 ∷ []
   -- "Instances are numbered per object type": a credential 9 with the flags of a rule is none.
@@ -53,19 +46,13 @@ pub record Rights : Type 0 where
 
 pub rights : Rights
 unfolding bytes ruled under holding
-<<<<<<< HEAD
-rights = record { of-both = refl; enabled = refl; a-credential = refl }
-=======
 rights = record { of-both = refl; real = refl; enabled = refl; a-credential = refl }
->>>>>>> 396d13e2ff354fdd6d0b1ac71eae7aa0d2ac6401
 
 pub record Locations : Type 0 where
   -- "A location fits if everywhere, this point, or its Zone_To."
   fits :
       under ((flags 13 ∷ location-kind 0 ∷ location 0 ∷ []) ∷ []) ++ under ([] ∷ []) ++ under ((location-kind 1 ∷ location 7 ∷ []) ∷ [])
       ≡ 1 ∷ 1 ∷ 1 ∷ []
-<<<<<<< HEAD
-=======
   -- Another point, whose number is not the card's format.
   another-point :
       told
@@ -81,7 +68,6 @@ pub record Locations : Type 0 where
       ∷ site (mode 0 ∷ zone-to 4194302 ∷ []) (first-rights 9 ∷ []) [])
       (shows 0 0x55 ∷ []))
       ≡ 1 ∷ []
->>>>>>> 396d13e2ff354fdd6d0b1ac71eae7aa0d2ac6401
   -- Zone_From does not; nor other points, a point with the number of Zone_To, a zone with the number of the point.
   elsewhere :
       under ((location-kind 1 ∷ location 8 ∷ []) ∷ [])
@@ -97,11 +83,7 @@ pub record Locations : Type 0 where
 
 pub locations : Locations
 unfolding bytes ruled under outside
-<<<<<<< HEAD
-locations = record { fits = refl; elsewhere = refl; without-zone = refl }
-=======
 locations = record { fits = refl; another-point = refl; last-zone = refl; elsewhere = refl; without-zone = refl }
->>>>>>> 396d13e2ff354fdd6d0b1ac71eae7aa0d2ac6401
 
 -- An enabled rule at point 2 on these days, from a minute to another.
 abbrev on : ℕ → ℕ → ℕ → List Field
