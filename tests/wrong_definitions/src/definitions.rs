@@ -46,13 +46,16 @@ fn definitions(text: &str) -> Vec<Definition> {
     for line in text.split_inclusive('\n') {
         let next = at + line.len();
         let word = line.trim_start();
+        let indent = line.len() - word.len();
+        // A comment among the fields of a record does not end it.
+        let within = found.last().is_some_and(|d| indent > d.indent);
         let start = STARTS.iter().find_map(|s| word.strip_prefix(s));
         if let Some(rest) = start {
-            found.push(begun(rest, line.len() - word.len(), next));
+            found.push(begun(rest, indent, next));
             open = true;
-        } else if word.is_empty() || word.starts_with("--") {
+        } else if word.is_empty() || (word.starts_with("--") && !within) {
             open = false;
-        } else if open {
+        } else if open && !word.starts_with("--") {
             found.last_mut().expect("a definition is open").end = next;
         }
         at = next;
