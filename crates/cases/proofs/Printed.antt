@@ -35,11 +35,13 @@ pub three-lines :
 unfolding definitions tables put records-at unlimited-credential read-at-two
 three-lines = refl
 
--- Turned back: a site of a byte, of a kind 0, with a zone twice, with a credential missing; a journal of a byte. 1, 2, 3, 4, 10.
+-- Turned back: a site of a byte, of a kind 0, with a zone twice, with a credential missing; a journal of a byte, also where the site is as long as whole
+-- entries. 1, 2, 3, 4, 10, 10.
 pub turned-back-lines :
     map (λ site. printJournal (flatten site) (9 ∷ []))
-    (((9 ∷ []) ∷ []) ∷ (record-of [] ∷ []) ∷ (zone-at 8 ∷ zone-at 8 ∷ []) ∷ (factor-at 1 5 7 ∷ []) ∷ (zone-at 8 ∷ []) ∷ [])
-    ≡ (49 ∷ 10 ∷ []) ∷ (50 ∷ 10 ∷ []) ∷ (51 ∷ 10 ∷ []) ∷ (52 ∷ 10 ∷ []) ∷ (49 ∷ 48 ∷ 10 ∷ []) ∷ []
+    (((9 ∷ []) ∷ []) ∷ (record-of [] ∷ []) ∷ (zone-at 8 ∷ zone-at 8 ∷ []) ∷ (factor-at 1 5 7 ∷ []) ∷ (zone-at 8 ∷ [])
+    ∷ (zone-at 7 ∷ zone-at 8 ∷ zone-at 9 ∷ []) ∷ [])
+    ≡ (49 ∷ 10 ∷ []) ∷ (50 ∷ 10 ∷ []) ∷ (51 ∷ 10 ∷ []) ∷ (52 ∷ 10 ∷ []) ∷ (49 ∷ 48 ∷ 10 ∷ []) ∷ (49 ∷ 48 ∷ 10 ∷ []) ∷ []
 unfolding definitions tables put records-at
 turned-back-lines = refl
 
