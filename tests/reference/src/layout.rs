@@ -1,4 +1,5 @@
-//! Offsets of the fields in site records, state records, entries and answers, each written once.
+//! Offsets of the fields in site records, state records, entries and answers, and places in the bits
+//! of a reader, each written once.
 
 /// Fields that every site record has.
 pub mod record {
@@ -95,4 +96,18 @@ pub mod answer {
     pub const TAG: usize = 4;
     pub const CREDENTIAL: usize = 8;
     pub const COUNT: usize = 12;
+}
+
+/// Places in the bits of a raw 26-bit reader; the first bit has place 0.
+pub mod wiegand26 {
+    use std::ops::Range;
+
+    pub const FIRST_PARITY: usize = 0;
+    pub const FACILITY: Range<usize> = 1..9;
+    pub const CARD: Range<usize> = 9..25;
+    pub const LAST_PARITY: usize = 25;
+    /// The bits that the first parity bit makes even.
+    pub const FIRST_HALF: Range<usize> = 0..13;
+    /// The bits that the last parity bit makes odd.
+    pub const LAST_HALF: Range<usize> = 13..26;
 }

@@ -1,8 +1,9 @@
-//! Second implementation of the access decision engine of document 01.
+//! Second implementation of the access decision engine of documents 01 and 02.
 //!
-//! It is written from the text of document 01 alone, shares no code with the proved engine, and
-//! serves as its counterpart in the differential test. It is written to be read: every lookup is a
-//! linear scan of the site. Names follow Addendum 135-2008j (document 002).
+//! It is written from the texts of document 01 and of the done requests of document 02 alone,
+//! shares no code with the proved engine, and serves as its counterpart in the differential test.
+//! It is written to be read: every lookup is a linear scan of the site. Names follow Addendum
+//! 135-2008j (document 002).
 
 #![forbid(unsafe_code)]
 
@@ -25,3 +26,4 @@ pub mod settings;
 pub mod site;
 pub mod state;
 pub mod time;
+pub mod wiegand;

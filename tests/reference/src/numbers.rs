@@ -1,4 +1,4 @@
-//! The numbers of document 01, each written once, under the names of document 002.
+//! The numbers of documents 01 and 02, each written once, under the names of document 002.
 
 /// The instance that refers to no object; real instances are smaller.
 pub const NONE: u32 = 4_194_303;
@@ -126,12 +126,19 @@ pub mod factor_disable {
     pub const DISABLED_DESTROYED: u8 = 5;
 }
 
-/// Format types of authentication factors. Formats of the site are above both.
+/// Format types of authentication factors. Formats of the site are above `ERROR`.
 pub mod format {
     pub const UNDEFINED: u8 = 0;
     /// A read error.
     pub const ERROR: u8 = 1;
+    /// The facility and the card number of a raw 26-bit reader.
+    pub const WIEGAND26: u8 = 8;
 }
+
+/// The bits that a raw 26-bit reader hands over.
+pub const WIEGAND26_BITS: u32 = 26;
+/// How many numbers so many bits make; each of them is smaller.
+pub const WIEGAND26_NUMBERS: u64 = 67_108_864;
 
 pub mod operation {
     pub const READ_FACTOR: u8 = 1;
@@ -202,4 +209,6 @@ pub mod refusal {
     pub const ENTRY_COUNT: u8 = 9;
     pub const JOURNAL_LENGTH: u8 = 10;
     pub const ANSWERS_LENGTH: u8 = 11;
+    /// The bits of a raw 26-bit reader.
+    pub const RAW_BITS: u8 = 17;
 }

@@ -1,8 +1,10 @@
-//! The named scenarios with what they must give, run through any engine.
+//! The named scenarios with what they must give, run through any engine. Those of `readers` also
+//! take a decoder of bits, so they are not of the list below.
 
 pub mod field_sheet;
 pub mod misreadings;
 pub mod paper_cases;
+pub mod readers;
 
 /// Declares a test for each scenario, through one engine. Every package that tests an engine has
 /// its list from here, so that none leaves a scenario out.
