@@ -1,0 +1,15 @@
+-- The octets of facility and card, right-aligned in eight.
+use Prim.Native.Nat.{_%_}
+use native.Mathlib.Nat.{div-one}
+use Rattle.octets.specs.Octets.{digits}
+use Rattle.wiegand.specs.Wiegand.{factor}
+use borrow.Author.Needs.{needs}
+use Rattle.wiegand.proofs.factor.Statement.{statement}
+use Rattle.wiegand.proofs.factor.Tie as tie
+
+returns : tie.Need-returns
+unfolding factor digits
+returns c = rw (div-one (c .args .facility), div-one (c .args .card % 256))
+
+pub factor-spec : {M : Type 1} → statement M
+factor-spec = tie.close (tie.spec (λ c. search needs) (λ c. search needs) returns)

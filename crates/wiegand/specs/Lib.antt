@@ -1,0 +1,2 @@
+pub mod Wiegand
+pub mod Theorems
