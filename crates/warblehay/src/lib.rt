@@ -3,7 +3,8 @@ ghost use mathlib.Core.Path.{_≡_};
 ghost use Rattle.model.specs.Numbers.{access-zone, access-point, access-credential};
 ghost use Rattle.model.specs.Calls.{number, checkSite, freshState, checkState, runJournal};
 ghost use Rattle.site.specs.Place.{placeOf};
-ghost use Rattle.warblehay.specs.Numbered.{numberedFresh, numberedRun};
+ghost use Rattle.wiegand.specs.Wiegand.{readWiegand26, writeWiegand26};
+ghost use Rattle.warblehay.specs.Numbered.{numberedFresh, numberedRun, numberedReading};
 ghost use Rattle.warblehay.specs.PlaceNumber.{placeNumber};
 use model::CredentialId;
 use model::PointId;
@@ -75,4 +76,34 @@ pub extern "C" fn warblehay_place_of_credential(site: &[u8], credential: u32) ->
     ensures { λ r. ⌜ r ≡ placeNumber (placeOf access-credential credential (now (site .entry))) ⌝ }
 {
     place_number(site::lookup::place_of_credential(site, CredentialId(credential)))
+}
+
+// Raw 26-bit readers: the factor of the bits, or format and value as they were where nothing is made.
+#[no_mangle]
+pub extern "C" fn warblehay_read_wiegand26(
+    number: u64,
+    count: u32,
+    format: &mut u8,
+    value: &mut [u8; 8],
+) -> u32
+    ensures { λ r. ⌜ (r, now (format .exit), now (value .exit)) ≡ numberedReading (readWiegand26 number count) (now (format .entry)) (now (value .entry)) ⌝ }
+{
+    let reading = wiegand::read_wiegand26(number, count);
+    let returned = reading.returned;
+    let outcome = wiegand::number_of(returned);
+    if outcome != 0 {
+        return outcome;
+    }
+    *format = reading.format;
+    let made = reading.value;
+    *value = made;
+    outcome
+}
+
+// The way back.
+#[no_mangle]
+pub extern "C" fn warblehay_write_wiegand26(facility: u8, card: u16) -> u32
+    ensures { λ r. ⌜ r ≡ writeWiegand26 facility card ⌝ }
+{
+    wiegand::write_wiegand26(facility, card)
 }
