@@ -4,12 +4,12 @@ ghost use Rattle.wiegand.specs.Wiegand.{bits, facilityOf, cardOf, firstP
 use model::numbers::FORMAT_ERROR;
 use model::numbers::FORMAT_UNDEFINED;
 
-// Formats of factors: that of 26-bit readers.
+// The format of a factor that 26 bits become, and their count.
 pub const FORMAT_WIEGAND26: u8 = 8;
 
-// The bits of such a reader, and one above the largest number that they make.
 pub const WIEGAND26_BITS: u32 = 26;
 
+// How many numbers they can make: one above the largest.
 pub const WIEGAND26_NUMBERS: u64 = 67108864;
 
 // Whether bits were worked through, or turned away.

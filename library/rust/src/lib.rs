@@ -1,4 +1,5 @@
-//! The access decision engine of document 01, proved, for a panel maker who writes Rust.
+//! The access decision engine of document 01, proved, for a panel maker who writes Rust; with the
+//! 26-bit readers of document 02.
 //!
 //! The calls are those of the C library: each is proved to return and write what document 01 says,
 //! whatever bytes it is handed, and to end. This package only lends them slices, and is not proved.
@@ -38,7 +39,7 @@ pub mod numbers {
 use core::fmt;
 use numbers::*;
 
-/// Why a call is turned back. The number of each is document 01's.
+/// Why a call is turned back. The number of each is that of documents 01 and 02.
 #[derive(Clone, Copy, Debug, PartialEq, Eq)]
 #[repr(u32)]
 pub enum TurnedBack {
@@ -58,11 +59,13 @@ pub enum TurnedBack {
     JournalLength = JOURNAL_LENGTH,
     /// The answers are not [`ANSWER_SIZE`] bytes for each entry.
     AnswersLength = ANSWERS_LENGTH,
+    /// A reader's bits are not [`WIEGAND26_BITS`], or their number is larger than these make.
+    NotTwentySixBits = NOT_TWENTY_SIX_BITS,
 }
 
 impl TurnedBack {
     /// All of them, in the order in which they are tried.
-    pub const ALL: [TurnedBack; 8] = [
+    pub const ALL: [TurnedBack; 9] = [
         TurnedBack::SiteLength,
         TurnedBack::SiteField,
         TurnedBack::SiteTwice,
@@ -71,9 +74,10 @@ impl TurnedBack {
         TurnedBack::StateForm,
         TurnedBack::JournalLength,
         TurnedBack::AnswersLength,
+        TurnedBack::NotTwentySixBits,
     ];
 
-    /// The number of document 01.
+    /// The number of documents 01 and 02.
     pub fn number(self) -> u32 {
         self as u32
     }
@@ -94,6 +98,7 @@ impl TurnedBack {
             TurnedBack::StateForm => "the state is not well formed for the site",
             TurnedBack::JournalLength => "the journal is not a multiple of 24 bytes, or too long",
             TurnedBack::AnswersLength => "the answers are not 16 bytes for each entry",
+            TurnedBack::NotTwentySixBits => "the bits of the reader are not 26",
         }
     }
 }
@@ -115,7 +120,7 @@ fn outcome(returned: u32) -> Result<(), TurnedBack> {
     if returned == WORKED_THROUGH {
         return Ok(());
     }
-    Err(TurnedBack::of_number(returned).expect("a call returns a number of document 01"))
+    Err(TurnedBack::of_number(returned).expect("a call returns a number of the documents"))
 }
 
 fn place(returned: usize) -> Option<usize> {
@@ -166,4 +171,47 @@ pub fn place_of_point(site: &[u8], point: u32) -> Option<usize> {
 /// The place of a credential's record, as [`place_of_zone`] has it.
 pub fn place_of_credential(site: &[u8], credential: u32) -> Option<usize> {
     place(library::place_of_credential(site, credential))
+}
+
+/// What a reader's bits become: the factor of a journal entry.
+#[derive(Clone, Copy, Debug, PartialEq, Eq)]
+pub struct Factor {
+    /// It stands at [`ENTRY_ARGUMENT`]: [`FORMAT_WIEGAND26`], or [`FORMAT_ERROR`].
+    pub format: u8,
+    /// It stands at [`ENTRY_VALUE`].
+    pub value: [u8; 8],
+}
+
+/// Reads the bits of a 26-bit reader: a parity bit, 8 bits of facility, 16 of card number, a parity
+/// bit, as one number, the first bit highest, with their count. Wrong parity makes a factor of
+/// [`FORMAT_ERROR`] with value zero. One wrong bit is always found so, and two where one is in the
+/// first 13 and the other in the last 13; two in the same 13 are not.
+///
+/// ```
+/// use warblehay::numbers::{FORMAT_ERROR, FORMAT_WIEGAND26, WIEGAND26_BITS};
+///
+/// let number = warblehay::write_wiegand26(131, 77).into();
+/// let factor = warblehay::read_wiegand26(number, WIEGAND26_BITS)?;
+/// assert_eq!(factor.format, FORMAT_WIEGAND26);
+/// assert_eq!(factor.value, [0, 0, 0, 0, 0, 131, 0, 77]);
+///
+/// let flipped = warblehay::read_wiegand26(number ^ 1, WIEGAND26_BITS)?;
+/// assert_eq!(flipped.format, FORMAT_ERROR);
+/// # Ok::<(), warblehay::TurnedBack>(())
+/// ```
+pub fn read_wiegand26(number: u64, count: u32) -> Result<Factor, TurnedBack> {
+    let (mut format, mut value) = (FORMAT_UNDEFINED, [0; 8]);
+    outcome(library::read_wiegand26(
+        number,
+        count,
+        &mut format,
+        &mut value,
+    ))?;
+    Ok(Factor { format, value })
+}
+
+/// The way back: the 26 bits of a facility and a card number, as one number, from which
+/// [`read_wiegand26`] reads the same facility and card number.
+pub fn write_wiegand26(facility: u8, card: u16) -> u32 {
+    library::write_wiegand26(facility, card)
 }

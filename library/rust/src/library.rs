@@ -34,6 +34,10 @@ extern "C" {
 
     fn warblehay_place_of_credential(site: *const u8, site_length: usize, credential: u32)
         -> usize;
+
+    fn warblehay_read_wiegand26(number: u64, count: u32, format: *mut u8, value: *mut u8) -> u32;
+
+    fn warblehay_write_wiegand26(facility: u8, card: u16) -> u32;
 }
 
 pub fn check_site(site: &[u8]) -> u32 {
@@ -80,4 +84,14 @@ pub fn place_of_point(site: &[u8], point: u32) -> usize {
 pub fn place_of_credential(site: &[u8], credential: u32) -> usize {
     // SAFETY: the call asks for nothing but a live slice.
     unsafe { warblehay_place_of_credential(site.as_ptr(), site.len(), credential) }
+}
+
+pub fn read_wiegand26(number: u64, count: u32, format: &mut u8, value: &mut [u8; 8]) -> u32 {
+    // SAFETY: the call asks for nothing but a live byte and eight live bytes, apart from each other.
+    unsafe { warblehay_read_wiegand26(number, count, format, value.as_mut_ptr()) }
+}
+
+pub fn write_wiegand26(facility: u8, card: u16) -> u32 {
+    // SAFETY: the call takes numbers alone.
+    unsafe { warblehay_write_wiegand26(facility, card) }
 }
