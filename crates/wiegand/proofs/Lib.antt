@@ -1,2 +1,5 @@
 pub mod Bits
 pub mod Fields
+pub mod Parity
+pub mod Written
+pub mod Changed
