@@ -88,9 +88,9 @@ pub extern "C" fn warblehay_read_wiegand26(
 ) -> u32
     ensures { λ r. ⌜ (r, now (format .exit), now (value .exit)) ≡ numberedReading (readWiegand26 number count) (now (format .entry)) (now (value .entry)) ⌝ }
 {
-    let reading = wiegand::read_wiegand26(number, count);
+    let reading = wiegand::read::read_wiegand26(number, count);
     let returned = reading.returned;
-    let outcome = wiegand::number_of(returned);
+    let outcome = wiegand::read::number_of(returned);
     if outcome != 0 {
         return outcome;
     }
@@ -105,5 +105,5 @@ pub extern "C" fn warblehay_read_wiegand26(
 pub extern "C" fn warblehay_write_wiegand26(facility: u8, card: u16) -> u32
     ensures { λ r. ⌜ r ≡ writeWiegand26 facility card ⌝ }
 {
-    wiegand::write_wiegand26(facility, card)
+    wiegand::write::write_wiegand26(facility, card)
 }

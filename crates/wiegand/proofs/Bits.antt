@@ -1,9 +1,9 @@
 -- The laws of bits, each for every count: bits of a number and of its parts, the number of bits, their ones.
 use mathlib.Core.Path.{_≡_, refl, sym, ap, _∙_}
 use mathlib.Core.List.{List, [], _∷_, _++_}
-use mathlib.Core.Bool.{Bool, true, false, not}
+use mathlib.Core.Bool.{Bool, true, false}
 use Prim.Native.Nat.{ℕ, zero, suc, _+_, _*_, _/_, _%_, _^_, _<_}
-use native.Mathlib.Nat.{add-comm, zero-add, suc-add, add-suc, add-mul, mul-assoc, pow-suc, pow-succ', mod-lt, mod-one}
+use native.Mathlib.Nat.{add-comm, zero-add, suc-add, add-mul, mul-assoc, pow-succ', mod-lt, mod-one}
 use native.Mathlib.Numerals.{one-add, add-one}
 use native.Mathlib.Omega.{arith}
 use lib.Arith.{digits-lt}

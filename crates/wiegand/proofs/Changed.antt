@@ -1,7 +1,7 @@
 -- Changed bits are found: one, or two of which one is in each half.
 use mathlib.Core.Path.{_≡_, refl, ap, _∙_}
-use mathlib.Core.Bool.{Bool, true, false, not, _&&_}
-use Prim.Native.Nat.{ℕ, _≤_, _<_}
+use mathlib.Core.Bool.{Bool, true, false, not}
+use Prim.Native.Nat.{ℕ, _<_}
 use lib.Dec.{ltb}
 use borrow.Author.Tests.{ltb-true, ltb-false}
 use Rattle.wiegand.specs.Wiegand.{bits, firstParity, lastParity, factorOf, readingError, readWiegand26, writeWiegand26}
@@ -30,11 +30,11 @@ one-changed-in f c i false h l =
 
 pub one-changed : OneChanged
 unfolding OneChanged
-one-changed f c i a b l = one-changed-in f c i (ltb i 13) refl l
+one-changed f c i l = one-changed-in f c i (ltb i 13) refl l
 
 pub halves-changed : HalvesChanged
 unfolding HalvesChanged
-halves-changed f c i j a b g h l =
+halves-changed f c i j g h l =
     let n = writeWiegand26 f c in
     let t = last-changed j n l (written-lt f c) in
     let u = first-changed i (changed j n) g h (t .0) in

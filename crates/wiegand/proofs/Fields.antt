@@ -1,15 +1,15 @@
 -- The parts of 26 bits as numbers: their halves, facility and card.
 use mathlib.Core.Path.{_≡_, refl, sym, ap, _∙_}
-use mathlib.Core.List.{List, [], _∷_, _++_}
-use mathlib.Core.Bool.{Bool, true, false, not}
-use Prim.Native.Nat.{ℕ, zero, suc, _+_, _*_, _/_, _%_, _^_, _-_, _<_}
+use mathlib.Core.List.{[], _∷_}
+use mathlib.Core.Bool.{not}
+use Prim.Native.Nat.{ℕ, zero, suc, _+_, _*_, _/_, _%_, _-_, _<_}
 use native.Mathlib.Nat.{mod-eq-of-lt, mod-lt}
 use native.Mathlib.Omega.{arith}
 use lib.Count.{ones}
 use lib.Dec.{eqb, lit<}
-use lib.ListN.{length, take, drop, length-append}
+use lib.ListN.{drop, length-append}
 use lib.Pow.{high, low}
-use Rattle.model.specs.Words.{bit, bitOf}
+use Rattle.model.specs.Words.{bitOf}
 use Rattle.wiegand.specs.Wiegand.{bits, numberOf, numberOfOnes, facilityOf, cardOf, firstParity, lastParity, isEven, isOdd, between, written, writeWiegand26}
 use Rattle.wiegand.proofs.Bits.{length-bits, bits-join, bits-mod, take-bits, drop-bits, number-bits, number-append, ones-bits}
 

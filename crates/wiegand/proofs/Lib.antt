@@ -1,3 +1,5 @@
+pub mod Cases
+pub mod Door
 pub mod Bits
 pub mod Fields
 pub mod Parity

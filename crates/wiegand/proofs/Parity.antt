@@ -1,8 +1,8 @@
 -- Parity: what one bit does to it, where a bit of a number is changed, and which parity bits are right.
 use mathlib.Core.Path.{_≡_, refl, sym, ap, _∙_}
-use mathlib.Core.List.{List, [], _∷_, _++_}
+use mathlib.Core.List.{List, _∷_, _++_}
 use mathlib.Core.Bool.{Bool, true, false, not}
-use Prim.Native.Nat.{ℕ, zero, suc, _+_, _-_, _*_, _/_, _%_, _^_, _≤_, _<_}
+use Prim.Native.Nat.{ℕ, zero, suc, _+_, _-_, _/_, _%_, _^_, _≤_, _<_}
 use native.Mathlib.Nat.{zero-add, add-comm, add-left-comm, mod-eq-of-lt}
 use native.Mathlib.Numerals.{one-add}
 use native.Mathlib.Omega.{arith}
@@ -131,7 +131,7 @@ unfolding changed bits
 changed-number a i n h =
     let xs = bits a (n / 2 ^ suc i) in
     let e : n ≡ numberOf (xs ++ bit n i ∷ bits i n) =
-        sym (mod-eq-of-lt h) ∙ sym (number-bits (a + suc i) n) ∙ ap numberOf (bits-join a (suc i) n) in
+    sym (mod-eq-of-lt h) ∙ sym (number-bits (a + suc i) n) ∙ ap numberOf (bits-join a (suc i) n) in
     rw (length-bits i n) at (number-other n xs (bits i n) (bit n i) e)
 
 length-other : (a i n : ℕ) (b : Bool) → length (bits a (n / 2 ^ suc i) ++ b ∷ bits i n) ≡ a + suc i

@@ -1,8 +1,8 @@
 -- What the way back writes is good and is read back, and nothing else is good.
-use mathlib.Core.Path.{_≡_, refl, sym, ap, ap₂, _∙_, subst}
-use mathlib.Core.List.{List, [], _∷_, _++_, append-assoc, append-nil}
+use mathlib.Core.Path.{_≡_, refl, sym, ap, ap₂, _∙_}
+use mathlib.Core.List.{List, [], _∷_, _++_, append-assoc}
 use mathlib.Core.Bool.{Bool, true, false, not, _&&_, _||_}
-use Prim.Native.Nat.{ℕ, zero, suc, _+_, _*_, _/_, _%_, _^_, _≤_, _<_}
+use Prim.Native.Nat.{ℕ, suc, _+_, _/_, _%_, _≤_, _<_}
 use native.Mathlib.Nat.{add-zero, mod-eq-of-lt, mod-lt}
 use native.Mathlib.Omega.{arith}
 use lib.Dec.{eqb, leb, lit<, lit≤}
@@ -10,7 +10,7 @@ use lib.ListN.{length, take, drop, length-append}
 use lib.Pow.{shr-shr}
 use lib.Seq.{take-append-le, drop-append-le, take-at, drop-at}
 use borrow.Author.Tests.{lt-leb, leb-false, eqb-true, not-false}
-use Rattle.octets.specs.Octets.{field, digits}
+use Rattle.octets.specs.Octets.{digits}
 use Rattle.octets.proofs.Laws.{field-digits}
 use Rattle.model.specs.Words.{if_then_else_, bit, bitOf, zeros}
 use Rattle.model.proofs.Laws.{and-left, and-right, or-left, or-right}
@@ -102,9 +102,14 @@ card-around p q f c h =
 read-written : (f c : ℕ) → f < 256 → c < 65536 → readWiegand26 (writeWiegand26 f c) 26 ≡ factor f c
 unfolding factorOf written
 read-written f c a b =
-    rw (read-bits (writeWiegand26 f c) (written-lt f c), written-first f c, written-last f c, written-bits f c,
-    facility-around (isOdd (numberOfOnes (take 12 (between f c)))) (isEven (numberOfOnes (drop 12 (between f c)))) f c a,
-    card-around (isOdd (numberOfOnes (take 12 (between f c)))) (isEven (numberOfOnes (drop 12 (between f c)))) f c b)
+    rw (
+      read-bits (writeWiegand26 f c) (written-lt f c),
+      written-first f c,
+      written-last f c,
+      written-bits f c,
+      facility-around (isOdd (numberOfOnes (take 12 (between f c)))) (isEven (numberOfOnes (drop 12 (between f c)))) f c a,
+      card-around (isOdd (numberOfOnes (take 12 (between f c)))) (isEven (numberOfOnes (drop 12 (between f c)))) f c b,
+    )
 
 -- ── facility and card in the value
 
@@ -170,11 +175,11 @@ good-written n h a b =
     let c = n / 2 % 65536 in
     let m = between f c in
     let p : bit n 25 ≡ isOdd (numberOfOnes (take 12 m)) =
-        even-only (bit n 25) (numberOfOnes (take 12 m))
-        (sym (first-around (bit n 25) (bit n 0) m (length-between f c)) ∙ sym (ap firstParity (bits-around n)) ∙ a) in
+    even-only (bit n 25) (numberOfOnes (take 12 m))
+    (sym (first-around (bit n 25) (bit n 0) m (length-between f c)) ∙ sym (ap firstParity (bits-around n)) ∙ a) in
     let q : bit n 0 ≡ isEven (numberOfOnes (drop 12 m)) =
-        odd-only (bit n 0) (numberOfOnes (drop 12 m))
-        (sym (last-around (bit n 25) (bit n 0) m (length-between f c)) ∙ sym (ap lastParity (bits-around n)) ∙ b) in
+    odd-only (bit n 0) (numberOfOnes (drop 12 m))
+    (sym (last-around (bit n 25) (bit n 0) m (length-between f c)) ∙ sym (ap lastParity (bits-around n)) ∙ b) in
     sym (mod-eq-of-lt h) ∙ sym (number-bits 26 n) ∙ ap numberOf (bits-around n ∙ ap₂ (λ x y. around x m y) p q)
 
 -- The factor that such bits become.

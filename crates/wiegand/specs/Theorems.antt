@@ -28,7 +28,7 @@ changed place number = if bit number place then number - 2 ^ place else number +
 -- "changing just one of its 26 bits always yields format 1", with value zero.
 unfoldable pub OneChanged : Type 0
 OneChanged =
-    (facility card place : ℕ) → facility < 256 → card < 65536 → place < 26 →
+    (facility card place : ℕ) → place < 26 →
     readWiegand26 (changed place (writeWiegand26 facility card)) 26 ≡ readingError
 
 -- Beyond the request: what is read as format 8 is 26 bits, and is what the way back writes for its facility and card.
@@ -47,5 +47,5 @@ NoneShared =
 -- Beyond the request: two changed bits, one in the first 13 and one in the last 13, are found too.
 unfoldable pub HalvesChanged : Type 0
 HalvesChanged =
-    (facility card first last : ℕ) → facility < 256 → card < 65536 → 13 ≤ first → first < 26 → last < 13 →
+    (facility card first last : ℕ) → 13 ≤ first → first < 26 → last < 13 →
     readWiegand26 (changed first (changed last (writeWiegand26 facility card))) 26 ≡ readingError

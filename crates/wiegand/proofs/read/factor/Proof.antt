@@ -4,8 +4,8 @@ use native.Mathlib.Nat.{div-one}
 use Rattle.octets.specs.Octets.{digits}
 use Rattle.wiegand.specs.Wiegand.{factor}
 use borrow.Author.Needs.{needs}
-use Rattle.wiegand.proofs.factor.Statement.{statement}
-use Rattle.wiegand.proofs.factor.Tie as tie
+use Rattle.wiegand.proofs.read.factor.Statement.{statement}
+use Rattle.wiegand.proofs.read.factor.Tie as tie
 
 returns : tie.Need-returns
 unfolding factor digits

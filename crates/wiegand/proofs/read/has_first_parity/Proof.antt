@@ -2,8 +2,8 @@
 use mathlib.Core.Path.{sym}
 use Rattle.wiegand.specs.Wiegand.{isEven}
 use Rattle.wiegand.proofs.Fields.{first-parity}
-use Rattle.wiegand.proofs.has_first_parity.Statement.{statement}
-use Rattle.wiegand.proofs.has_first_parity.Tie as tie
+use Rattle.wiegand.proofs.read.has_first_parity.Statement.{statement}
+use Rattle.wiegand.proofs.read.has_first_parity.Tie as tie
 
 pub has-first-parity-spec : {M : Type 1} → statement M
 unfolding isEven

@@ -2,8 +2,8 @@
 use mathlib.Core.Path.{sym}
 use Rattle.wiegand.specs.Wiegand.{isEven, isOdd}
 use Rattle.wiegand.proofs.Fields.{last-parity}
-use Rattle.wiegand.proofs.has_last_parity.Statement.{statement}
-use Rattle.wiegand.proofs.has_last_parity.Tie as tie
+use Rattle.wiegand.proofs.read.has_last_parity.Statement.{statement}
+use Rattle.wiegand.proofs.read.has_last_parity.Tie as tie
 
 pub has-last-parity-spec : {M : Type 1} → statement M
 unfolding isEven isOdd

@@ -6,8 +6,8 @@ use lib.Dec.{eqb, leb}
 use borrow.Author.Tests.{leb-false}
 use Rattle.model.proofs.Laws.{or-right}
 use Rattle.wiegand.specs.Wiegand.{readWiegand26}
-use Rattle.wiegand.proofs.read_wiegand26.Statement.{statement}
-use Rattle.wiegand.proofs.read_wiegand26.Tie as tie
+use Rattle.wiegand.proofs.read.read_wiegand26.Statement.{statement}
+use Rattle.wiegand.proofs.read.read_wiegand26.Tie as tie
 
 returns : tie.Need-returns
 unfolding readWiegand26

@@ -1,9 +1,7 @@
 -- Both parities hold, or the bits are a reading error.
-use mathlib.Core.Path.{_≡_, sym}
-use mathlib.Core.Bool.{true, false, _&&_}
-use Rattle.wiegand.specs.Wiegand.{bits, firstParity, lastParity, factorOf}
-use Rattle.wiegand.proofs.factor_of.Statement.{statement}
-use Rattle.wiegand.proofs.factor_of.Tie as tie
+use Rattle.wiegand.specs.Wiegand.{factorOf}
+use Rattle.wiegand.proofs.read.factor_of.Statement.{statement}
+use Rattle.wiegand.proofs.read.factor_of.Tie as tie
 
 returns : tie.Need-returns
 unfolding factorOf

@@ -2,8 +2,8 @@
 use mathlib.Core.Path.{sym}
 use borrow.Author.Needs.{needs}
 use Rattle.wiegand.proofs.Fields.{written-number}
-use Rattle.wiegand.proofs.write_wiegand26.Statement.{statement}
-use Rattle.wiegand.proofs.write_wiegand26.Tie as tie
+use Rattle.wiegand.proofs.write.write_wiegand26.Statement.{statement}
+use Rattle.wiegand.proofs.write.write_wiegand26.Tie as tie
 
 returns : tie.Need-returns
 returns c = sym (written-number (c .args .facility) (c .args .card) (c .fits .facility .fits) (c .fits .card .fits))
