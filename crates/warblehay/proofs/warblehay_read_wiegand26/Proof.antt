@@ -1,11 +1,12 @@
 -- Turned away, format and value are as they were; else they are those of the reading.
+use mathlib.Core.Path.{refl}
 use borrow.Author.Tests.{eq-eqb, ne-eqb}
 use Rattle.warblehay.proofs.warblehay_read_wiegand26.Statement.{statement}
 use Rattle.warblehay.proofs.warblehay_read_wiegand26.Tie as tie
 
 returns : tie.Need-returns
 returns c =
-    rw (← c .before .before .read-wiegand26 .ensures, ← c .before .number-of .ensures, ne-eqb (c .before .number-of .result) 0 (c .if1 .taken))
+    rw (← c .before .before .read-wiegand26 .ensures, ← c .before .number-of .ensures, ne-eqb (c .before .number-of .result) 0 (c .if1 .taken)) refl
 
 returns-2 : tie.Need-returns-2
 returns-2 c =
