@@ -5,3 +5,4 @@ pub mod Fields
 pub mod Parity
 pub mod Written
 pub mod Changed
+pub mod Instances
