@@ -79,7 +79,7 @@ unfoldable pub readWiegand26 : ℕ → ℕ → Reading
 readWiegand26 number count =
     if not (eqb count 26) || leb 67108864 number then nothingMade else factorOf (bits 26 number)
 
--- The number of each outcome.
+-- "Turned away: 17"; 0 for worked through, as in document 01.
 abbrev pub returnedNumber : BitsReturned → ℕ
 returnedNumber WorkedThrough = 0
 returnedNumber NotTwentySixBits = 17
