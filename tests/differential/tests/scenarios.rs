@@ -1,4 +1,12 @@
-//! The named scenarios through the proved engine: the paper's cases and misreadings, and the field
-//! engineer's sheet.
+//! The named scenarios through the proved engine: the paper's cases and misreadings, the field
+//! engineer's sheet, and the way from a reader to the door.
+
+use differential::proved;
+use reference::scenarios::readers;
 
 reference::test_scenarios!(differential::proved::PROVED);
+
+#[test]
+fn from_reader_to_door() {
+    readers::from_reader_to_door(proved::PROVED, proved::read_wiegand26);
+}

@@ -1,5 +1,6 @@
 /* damaged SITE JOURNAL MODE SEED CASES: every call on copies of a site, its fresh state, a journal and its answers whose bytes and lengths are
- * damaged at random. The library is not itself instrumented, so MODE says how a step past a buffer's bounds is seen:
+ * damaged at random, and on a reader's bits at random. The library is not itself instrumented, so MODE says how a step past a buffer's bounds is
+ * seen:
  *
  *   heap    each buffer is an allocation of exactly its length
  *   before  each ends right before a page that faults, with bytes before it that must stay
@@ -19,8 +20,9 @@
 
 enum { ROOM = 1 << 17, KEPT_BYTES = 64, KEPT = 0xC5 };
 enum { HEAP, BEFORE, AFTER };
-enum { SITE, STATE, JOURNAL, ANSWERS, BUFFERS };
-enum { CHECK_SITE, FRESH, CHECK_STATE, RUN, CALLS };
+enum { SITE, STATE, JOURNAL, ANSWERS, RUN_BUFFERS, FORMAT = RUN_BUFFERS, VALUE, BUFFERS };
+enum { CHECK_SITE, FRESH, CHECK_STATE, RUN, READ_WIEGAND26, CALLS };
+enum { LARGEST_RETURNED = WARBLEHAY_NOT_TWENTY_SIX_BITS, VALUE_SIZE = 8, WIEGAND26_NUMBERS = 67108864 };
 
 /* What the case puts into a buffer. */
 struct bytes {
@@ -36,11 +38,12 @@ struct lent {
 
 static int mode;
 static unsigned long case_number;
-static struct bytes example[BUFFERS], damaged[BUFFERS];
+static struct bytes example[RUN_BUFFERS], damaged[BUFFERS];
 static struct lent lent[BUFFERS];
 static uint8_t *between_guards[BUFFERS];
-static unsigned long returned_times[CALLS][WARBLEHAY_ANSWERS_LENGTH + 1];
+static unsigned long returned_times[CALLS][LARGEST_RETURNED + 1];
 static unsigned long found_times[WARBLEHAY_ACCESS_CREDENTIAL + 1], missed_times[WARBLEHAY_ACCESS_CREDENTIAL + 1];
+static unsigned long error_times, good_times, written_times;
 static uint64_t sum = 14695981039346656037u;
 
 static void fail(const char *fact, int line)
@@ -184,11 +187,11 @@ static void lengthen_journal(void)
 
 static void damage(void)
 {
-    static const size_t units[BUFFERS] = {
+    static const size_t units[RUN_BUFFERS] = {
         WARBLEHAY_RECORD_SIZE, WARBLEHAY_RECORD_SIZE, WARBLEHAY_ENTRY_SIZE, WARBLEHAY_ANSWER_SIZE
     };
     uint64_t kind = below(100);
-    size_t buffer = below(BUFFERS);
+    size_t buffer = below(RUN_BUFFERS);
     if (kind < 50)
         change_byte(&damaged[buffer]);
     else if (kind < 75)
@@ -204,7 +207,7 @@ static void damage(void)
 /* The calls. Each lends what it needs, and afterwards every buffer but one worked through is as it was. */
 static void count_returned(int call, uint32_t returned)
 {
-    EXPECT(returned <= WARBLEHAY_ANSWERS_LENGTH);
+    EXPECT(returned <= LARGEST_RETURNED);
     returned_times[call][returned]++;
     uint8_t byte = (uint8_t)returned;
     add_to_sum(&byte, 1);
@@ -293,7 +296,7 @@ static uint32_t try_check_state(uint32_t expected)
 static void try_run(uint32_t expected)
 {
     size_t journal = damaged[JOURNAL].length, answers = damaged[ANSWERS].length;
-    for (int i = 0; i < BUFFERS; i++)
+    for (int i = 0; i < RUN_BUFFERS; i++)
         lend(i);
     uint32_t returned = warblehay_run_journal(lent[SITE].at, lent[SITE].length, lent[STATE].at, lent[STATE].length, lent[JOURNAL].at,
                                               journal, lent[ANSWERS].at, answers);
@@ -308,13 +311,103 @@ static void try_run(uint32_t expected)
         EXPECT(check_lent_state() == WARBLEHAY_WORKED_THROUGH); /* The state is well formed again. */
     else
         EXPECT(is_as_it_was(STATE) && is_as_it_was(ANSWERS));
-    for (int i = 0; i < BUFFERS; i++)
+    for (int i = 0; i < RUN_BUFFERS; i++)
         take_back(i);
+}
+
+/* Lends format and value with any bytes in them. */
+static void lend_factor(void)
+{
+    damaged[FORMAT].length = 1;
+    damaged[VALUE].length = VALUE_SIZE;
+    for (int i = FORMAT; i <= VALUE; i++) {
+        for (size_t k = 0; k < damaged[i].length; k++)
+            damaged[i].at[k] = (uint8_t)below(256);
+        lend(i);
+    }
+}
+
+static uint32_t read_to_lent(uint64_t number, uint32_t count)
+{
+    uint32_t returned = warblehay_read_wiegand26(number, count, lent[FORMAT].at, lent[VALUE].at);
+    count_returned(READ_WIEGAND26, returned);
+    return returned;
+}
+
+static int is_lent_value(uint8_t facility, uint16_t card)
+{
+    const uint8_t value[VALUE_SIZE] = { 0, 0, 0, 0, 0, facility, (uint8_t)(card >> 8), (uint8_t)card };
+    return memcmp(lent[VALUE].at, value, VALUE_SIZE) == 0;
+}
+
+/* Good bits are those that are written for what was read from them; of others nothing was read. */
+static void expect_factor_of(uint64_t number)
+{
+    const uint8_t *value = lent[VALUE].at;
+    uint16_t card = (uint16_t)(value[6] << 8 | value[7]);
+    if (*lent[FORMAT].at == WARBLEHAY_FORMAT_WIEGAND26) {
+        EXPECT(is_lent_value(value[5], card));
+        EXPECT(warblehay_write_wiegand26(value[5], card) == number);
+        good_times++;
+    } else {
+        EXPECT(*lent[FORMAT].at == WARBLEHAY_FORMAT_ERROR);
+        EXPECT(is_lent_value(0, 0));
+        error_times++;
+    }
+}
+
+/* Any 26 bits, or those of a card, at times with one bit changed, of the 26 or above them. */
+static uint64_t random_bits(void)
+{
+    if (below(2) == 0)
+        return below(WIEGAND26_NUMBERS);
+    uint8_t facility = (uint8_t)below(256);
+    uint64_t bits = warblehay_write_wiegand26(facility, (uint16_t)below(65536));
+    return below(2) == 0 ? bits : bits ^ UINT64_C(1) << below(64);
+}
+
+/* Half of the time 26, else any count or one that is 26 in its lowest byte. */
+static uint32_t random_count(void)
+{
+    if (below(2) == 0)
+        return WARBLEHAY_WIEGAND26_BITS;
+    return (uint32_t)(below(2) == 0 ? below(65) : below(1 << 24) << 8 | WARBLEHAY_WIEGAND26_BITS);
+}
+
+static void try_read_wiegand26(void)
+{
+    uint64_t number = random_bits();
+    uint32_t count = random_count();
+    lend_factor();
+    uint32_t returned = read_to_lent(number, count);
+    if (count != WARBLEHAY_WIEGAND26_BITS || number >= WIEGAND26_NUMBERS) {
+        EXPECT(returned == WARBLEHAY_NOT_TWENTY_SIX_BITS);
+        EXPECT(is_as_it_was(FORMAT) && is_as_it_was(VALUE));
+    } else {
+        EXPECT(returned == WARBLEHAY_WORKED_THROUGH);
+        expect_factor_of(number);
+    }
+    take_back(FORMAT);
+    take_back(VALUE);
+}
+
+static void try_write_wiegand26(void)
+{
+    uint8_t facility = (uint8_t)below(256);
+    uint16_t card = (uint16_t)below(65536);
+    lend_factor();
+    uint32_t number = warblehay_write_wiegand26(facility, card);
+    EXPECT(read_to_lent(number, WARBLEHAY_WIEGAND26_BITS) == WARBLEHAY_WORKED_THROUGH);
+    EXPECT(*lent[FORMAT].at == WARBLEHAY_FORMAT_WIEGAND26);
+    EXPECT(is_lent_value(facility, card));
+    written_times++;
+    take_back(FORMAT);
+    take_back(VALUE);
 }
 
 static void try_case(void)
 {
-    for (int i = 0; i < BUFFERS; i++) {
+    for (int i = 0; i < RUN_BUFFERS; i++) {
         damaged[i].length = example[i].length;
         memcpy(damaged[i].at, example[i].at, example[i].length);
     }
@@ -322,6 +415,8 @@ static void try_case(void)
         damage();
     try_places();
     try_run(try_check_state(try_fresh(try_check_site())));
+    try_read_wiegand26();
+    try_write_wiegand26();
 }
 
 static void read_example(int i, const char *name)
@@ -342,18 +437,28 @@ static void make_rest_of_example(void)
     memset(example[ANSWERS].at, KEPT, example[ANSWERS].length);
 }
 
-/* Every number that a call can return has occurred, and no other. */
-static void report(int call, const char *name, uint32_t last)
+/* Every number that a call can return has occurred, and no other: worked through, and those from first to last that are not of answers. */
+static void report(int call, const char *name, uint32_t first, uint32_t last)
 {
     printf("%s", name);
-    for (uint32_t returned = 0; returned <= WARBLEHAY_ANSWERS_LENGTH; returned++) {
+    for (uint32_t returned = 0; returned <= LARGEST_RETURNED; returned++) {
         int is_in_answers = returned >= WARBLEHAY_REFUSED_FORM && returned <= WARBLEHAY_REFUSED_COUNT;
+        int is_turned_back = returned >= first && returned <= last && !is_in_answers;
         unsigned long times = returned_times[call][returned];
         if (times != 0)
             printf(" %u:%lu", (unsigned)returned, times);
-        EXPECT((times != 0) == (returned <= last && !is_in_answers));
+        EXPECT((times != 0) == (returned == WARBLEHAY_WORKED_THROUGH || is_turned_back));
     }
     printf("\n");
+}
+
+/* Bits have been turned away, been errors and been good, and have been written. */
+static void report_wiegand26(void)
+{
+    report(READ_WIEGAND26, "read_wiegand26", WARBLEHAY_NOT_TWENTY_SIX_BITS, WARBLEHAY_NOT_TWENTY_SIX_BITS);
+    printf("read_wiegand26 errors:%lu good:%lu\n", error_times, good_times);
+    printf("write_wiegand26 read back:%lu\n", written_times);
+    EXPECT(error_times != 0 && good_times != 0 && written_times != 0);
 }
 
 /* Each lookup has found a record, and none. */
@@ -388,13 +493,14 @@ int main(int count, char **arguments)
         between_guards[i] = map_between_guards();
     for (case_number = 0; case_number < cases; case_number++)
         try_case();
-    report(CHECK_SITE, "check_site", WARBLEHAY_SITE_MISSING);
-    report(FRESH, "fresh_state", WARBLEHAY_STATE_LENGTH);
-    report(CHECK_STATE, "check_state", WARBLEHAY_STATE_FORM);
-    report(RUN, "run_journal", WARBLEHAY_ANSWERS_LENGTH);
+    report(CHECK_SITE, "check_site", WARBLEHAY_SITE_LENGTH, WARBLEHAY_SITE_MISSING);
+    report(FRESH, "fresh_state", WARBLEHAY_SITE_LENGTH, WARBLEHAY_STATE_LENGTH);
+    report(CHECK_STATE, "check_state", WARBLEHAY_SITE_LENGTH, WARBLEHAY_STATE_FORM);
+    report(RUN, "run_journal", WARBLEHAY_SITE_LENGTH, WARBLEHAY_ANSWERS_LENGTH);
     report_places(WARBLEHAY_ACCESS_ZONE, "place_of_zone");
     report_places(WARBLEHAY_ACCESS_POINT, "place_of_point");
     report_places(WARBLEHAY_ACCESS_CREDENTIAL, "place_of_credential");
+    report_wiegand26();
     printf("sum %016llX\n", (unsigned long long)sum);
     return 0;
 }

@@ -1,5 +1,5 @@
-/* stack SITE JOURNAL: the bytes of stack that the site check, the fresh state, its check and the run of the journal use, a line each, with the
- * function that makes the call. Each runs on a stack of its own, painted before. */
+/* stack SITE JOURNAL: the bytes of stack that the site check, the fresh state, its check, the run of the journal and the calls of 26-bit readers use,
+ * a line each, with the function that makes the call. Each runs on a stack of its own, painted before. */
 #define _XOPEN_SOURCE 700
 #include "warblehay.h"
 
@@ -12,7 +12,8 @@ enum { STACK_SIZE = 1 << 16, PAINT = 0xC5 };
 static uint8_t stack[STACK_SIZE];
 static uint8_t site[WARBLEHAY_LARGEST_SITE], state[sizeof site], journal[WARBLEHAY_LARGEST_JOURNAL], answers[sizeof journal];
 static size_t site_length, journal_length;
-static uint32_t returned;
+static uint32_t returned, card_bits;
+static uint8_t format, value[8];
 static ucontext_t caller, callee;
 
 static size_t read_file(const char *name, uint8_t *buffer, size_t room)
@@ -45,6 +46,17 @@ static void run(void)
     returned = warblehay_run_journal(site, site_length, state, site_length, journal, journal_length, answers, answers_length);
 }
 
+/* It is never turned back. */
+static void write_wiegand26(void)
+{
+    card_bits = warblehay_write_wiegand26(131, 77);
+}
+
+static void read_wiegand26(void)
+{
+    returned = warblehay_read_wiegand26(card_bits, WARBLEHAY_WIEGAND26_BITS, &format, value);
+}
+
 /* The bytes down to the lowest that a call wrote; those below the stack pointer count too. */
 static size_t used_by(void (*call)(void))
 {
@@ -71,7 +83,7 @@ int main(int count, char **arguments)
     if (site_length == 0 || journal_length == 0)
         return 1;
 
-    void (*const calls[])(void) = {check_site, fresh, check_state, run};
+    void (*const calls[])(void) = {check_site, fresh, check_state, run, write_wiegand26, read_wiegand26};
     for (size_t index = 0; index < sizeof calls / sizeof *calls; index++) {
         size_t used = used_by(calls[index]);
         if (returned != WARBLEHAY_WORKED_THROUGH)

@@ -12,7 +12,7 @@ use std::fs;
 
 const PREFIX: &str = "WARBLEHAY_";
 
-/// What document 01 returns, from a call or in an answer.
+/// What documents 01 and 02 return, from a call or in an answer.
 fn outcomes() -> Vec<(&'static str, u64)> {
     use refusal::*;
     Vec::from([
@@ -28,6 +28,7 @@ fn outcomes() -> Vec<(&'static str, u64)> {
         ("REFUSED_COUNT", ENTRY_COUNT),
         ("JOURNAL_LENGTH", JOURNAL_LENGTH),
         ("ANSWERS_LENGTH", ANSWERS_LENGTH),
+        ("NOT_TWENTY_SIX_BITS", RAW_BITS),
     ])
     .into_iter()
     .map(|(name, number)| (name, number.into()))
@@ -46,6 +47,7 @@ fn sizes_and_times() -> Vec<(&'static str, u64)> {
         ("LARGEST_SITE", MOST_SITE_BYTES as u64),
         ("LARGEST_JOURNAL", MOST_JOURNAL_BYTES as u64),
         ("MINUTES_OF_DAY", MINUTES_PER_DAY.into()),
+        ("WIEGAND26_BITS", WIEGAND26_BITS.into()),
         // The reference has no name for it.
         ("NOWHERE", u64::MAX),
     ])
@@ -84,6 +86,7 @@ fn fields() -> Vec<(&'static str, u64)> {
         ("LARGEST_THREAT", MOST_THREAT_LEVEL),
         ("FORMAT_UNDEFINED", format::UNDEFINED),
         ("FORMAT_ERROR", format::ERROR),
+        ("FORMAT_WIEGAND26", format::WIEGAND26),
     ])
     .into_iter()
     .map(|(name, number)| (name, number.into()))
@@ -357,7 +360,7 @@ fn numbers_are_those_of_the_reference() {
 }
 
 #[test]
-fn every_outcome_of_the_paper_has_a_name() {
+fn every_outcome_of_the_papers_has_a_name() {
     let numbers: Vec<u64> = outcomes().into_iter().map(|(_, number)| number).collect();
-    assert_eq!(numbers, Vec::from_iter(0..=11));
+    assert_eq!(numbers, Vec::from_iter((0..=11).chain([17])));
 }

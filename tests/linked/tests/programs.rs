@@ -3,6 +3,7 @@
 
 mod library;
 
+use library::{compile, PLAIN, SANITISED};
 use reference::generate::{journal, large_site, Random};
 use reference::numbers::{ENTRY_LENGTH, MOST_JOURNAL_BYTES, MOST_SITE_BYTES, RECORD_LENGTH};
 use reference::print::print_journal;
@@ -10,33 +11,9 @@ use std::fs;
 use std::path::{Path, PathBuf};
 use std::process::Command;
 
-const SANITISED: [&str; 4] = [
-    "-g",
-    "-O1",
-    "-fsanitize=address,undefined",
-    "-fno-sanitize-recover=all",
-];
-
-const PLAIN: [&str; 1] = ["-O2"];
-
 /// Damaged cases in each mode, and the seed, so that the gate always tries the same ones.
 const CASES: &str = "20000";
 const SEED: &str = "1352008";
-
-/// Compiles a program of `c/` into the directory of the test.
-fn compile(test: &str, program: &str, flags: &[&str]) -> PathBuf {
-    let source = Path::new(env!("CARGO_MANIFEST_DIR")).join(format!("c/{program}.c"));
-    let compiled = library::scratch(test).join(format!("{program}{}", flags[0]));
-    library::assert_succeeds(
-        library::compiler()
-            .args(flags)
-            .arg(source)
-            .arg(library::directory().join("libwarblehay.a"))
-            .arg("-o")
-            .arg(&compiled),
-    );
-    compiled
-}
 
 /// The same program in Rust and, plain and sanitised, in C.
 fn print_answers(test: &str) -> [PathBuf; 3] {
@@ -142,7 +119,7 @@ fn damaged_buffers() {
         library::assert_succeeds(on_example(program).args([mode, SEED, CASES]))
     };
     let reported = run(&plain, "heap");
-    assert_eq!(reported.lines().count(), 8);
+    assert_eq!(reported.lines().count(), 11);
     for mode in ["heap", "before", "after"] {
         assert_eq!(run(&sanitised, mode), reported, "{mode}");
     }
@@ -168,7 +145,7 @@ fn the_stack_stays_small() {
             .lines()
             .filter_map(|line| line.parse().ok())
             .collect();
-        assert_eq!(used.len(), 4, "a number for each call");
+        assert_eq!(used.len(), 6, "a number for each call");
         assert!(
             used.iter().all(|used| (1..STACK).contains(used)),
             "{used:?} bytes"
@@ -212,7 +189,9 @@ fn no_other_library_and_no_other_name() {
             "warblehay_place_of_credential",
             "warblehay_place_of_point",
             "warblehay_place_of_zone",
+            "warblehay_read_wiegand26",
             "warblehay_run_journal",
+            "warblehay_write_wiegand26",
         ]
     );
 }

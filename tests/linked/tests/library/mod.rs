@@ -26,6 +26,30 @@ pub fn compiler() -> Command {
     compiler
 }
 
+pub const SANITISED: [&str; 4] = [
+    "-g",
+    "-O1",
+    "-fsanitize=address,undefined",
+    "-fno-sanitize-recover=all",
+];
+
+pub const PLAIN: [&str; 1] = ["-O2"];
+
+/// Compiles a program of `c/` into the directory of the test.
+pub fn compile(test: &str, program: &str, flags: &[&str]) -> PathBuf {
+    let source = Path::new(env!("CARGO_MANIFEST_DIR")).join(format!("c/{program}.c"));
+    let compiled = scratch(test).join(format!("{program}{}", flags[0]));
+    assert_succeeds(
+        compiler()
+            .args(flags)
+            .arg(source)
+            .arg(directory().join("libwarblehay.a"))
+            .arg("-o")
+            .arg(&compiled),
+    );
+    compiled
+}
+
 pub fn assert_succeeds(command: &mut Command) -> String {
     let output = command.output().expect("the command starts");
     let errors = String::from_utf8_lossy(&output.stderr);
