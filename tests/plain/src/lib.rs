@@ -2,8 +2,9 @@
 //! the standard library alone would write for speed.
 //!
 //! Both follow document 01 and share all but the lookups: `hashed` finds records by hash maps that
-//! each call builds, `linear` scans the site and takes nothing from the heap. Of the `reference`
-//! crate they take only the paper's numbers, so that the tests compare two implementations.
+//! each call builds, `linear` scans the site and takes nothing from the heap. The calls of 26-bit
+//! readers are in `wiegand`. Of the `reference` crate they take only the papers' numbers, so that the
+//! tests compare two implementations.
 
 #![forbid(unsafe_code)]
 
@@ -18,6 +19,7 @@ mod range;
 mod rights;
 mod site;
 mod state;
+pub mod wiegand;
 
 use reference::engine::Engine;
 

@@ -5,6 +5,7 @@
 
 use crate::calls::{Call, Setting, ENGINES};
 use crate::meter::Meter;
+use crate::readers;
 use std::arch::asm;
 use std::collections::HashMap;
 use std::ffi::{CString, OsString};
@@ -54,6 +55,10 @@ fn key(setting: &Setting, call: &str, engine: &str) -> String {
     format!("{}/{}/{call}/{engine}", setting.shape, setting.records())
 }
 
+fn reader_key(call: &readers::Call, engine: &str) -> String {
+    format!("{}/{}/{engine}", readers::SHAPE, call.name())
+}
+
 /// Under valgrind: has the instructions of each call written. It hands back no figures.
 pub struct Dumps;
 
@@ -75,6 +80,13 @@ impl Meter for Dumps {
             Dumps::count(&key, || call.make(&engine, setting, &mut buffers));
         }
         [0.0; 3]
+    }
+
+    fn readers(&mut self, call: &readers::Call) -> [f64; 2] {
+        for (name, engine) in readers::ENGINES {
+            Dumps::count(&reader_key(call, name), || call.make(engine));
+        }
+        [0.0; 2]
     }
 
     fn floor(&mut self, setting: &Setting) -> f64 {
@@ -138,6 +150,10 @@ fn count_in(dump: &str) -> Option<(String, f64)> {
 impl Meter for Counts {
     fn engines(&mut self, setting: &Setting, call: &Call) -> [f64; 3] {
         ENGINES.map(|(name, _)| self.of(&key(setting, call.name, name)))
+    }
+
+    fn readers(&mut self, call: &readers::Call) -> [f64; 2] {
+        readers::ENGINES.map(|(name, _)| self.of(&reader_key(call, name)))
     }
 
     fn floor(&mut self, setting: &Setting) -> f64 {

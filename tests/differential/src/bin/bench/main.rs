@@ -1,6 +1,6 @@
 //! `bench [--instructions] [--shape NAME] [--records NUMBER] [--call NAME] [REPETITIONS]`: the proved
-//! engine beside the plain ones, over sites of all shapes and sizes. It asserts that the engines
-//! agree and that the calls are worked through, and no time.
+//! engine beside the plain ones, over sites of all shapes and sizes, and over the bits of readers. It
+//! asserts that the engines agree and that the calls are worked through, and no time.
 //!
 //! Times are medians of 15 or of the given number of repetitions. With `--instructions` the program
 //! counts the instructions of one call each, by callgrind. A shape, a number of records and a call,
@@ -12,6 +12,7 @@ mod calls;
 mod instructions;
 mod journals;
 mod meter;
+mod readers;
 mod shapes;
 mod table;
 mod times;
@@ -22,7 +23,7 @@ use meter::Meter;
 use shapes::SHAPES;
 use std::env;
 use std::process::ExitCode;
-use table::{print_heading, print_summary, Site};
+use table::{print_heading, print_readers, print_summary, Site};
 use times::Times;
 
 const RECORDS: [usize; 4] = [250, 500, 1_000, 2_000];
@@ -67,6 +68,17 @@ impl Arguments {
             && self.records.is_none_or(|number| number == records)
     }
 
+    fn wants_call(&self, name: &str) -> bool {
+        self.call.as_ref().is_none_or(|call| call == name)
+    }
+
+    /// Whether they name what takes no site.
+    fn are_of_readers(&self) -> bool {
+        let named = [self.shape.as_deref(), self.call.as_deref()];
+        let mut of_readers = [readers::SHAPE, readers::READ, readers::WRITE].into_iter();
+        of_readers.any(|name| named.contains(&Some(name)))
+    }
+
     /// The sites to measure, made one after the other.
     fn settings(&self) -> impl Iterator<Item = Setting> + '_ {
         let example = self.wants("example", 6).then(Setting::example);
@@ -80,13 +92,21 @@ impl Arguments {
     }
 }
 
-/// Measures the sites, printing each as soon as it is.
 fn measure(arguments: &Arguments, meter: &mut impl Meter) {
+    if !arguments.are_of_readers() {
+        measure_sites(arguments, meter);
+    }
+    if arguments.wants(readers::SHAPE, readers::SIZE) {
+        measure_readers(arguments, meter);
+    }
+}
+
+/// Measures the sites, printing each as soon as it is.
+fn measure_sites(arguments: &Arguments, meter: &mut impl Meter) {
     print_heading();
     let mut sites = Vec::new();
     for mut setting in arguments.settings() {
-        let wants = |name: &str| arguments.call.as_ref().is_none_or(|call| call == name);
-        setting.calls.retain(|call| wants(call.name));
+        setting.calls.retain(|call| arguments.wants_call(call.name));
         let mut figures = Vec::new();
         for call in &setting.calls {
             call.assert_agreed(&setting);
@@ -102,6 +122,19 @@ fn measure(arguments: &Arguments, meter: &mut impl Meter) {
         sites.push(site);
     }
     print_summary(&sites);
+}
+
+fn measure_readers(arguments: &Arguments, meter: &mut impl Meter) {
+    let mut figures = Vec::new();
+    for call in readers::calls() {
+        if arguments.wants_call(call.name()) {
+            call.assert_agreed();
+            figures.push((call.name(), meter.readers(&call)));
+        }
+    }
+    if !figures.is_empty() {
+        print_readers(&figures, meter);
+    }
 }
 
 fn main() -> ExitCode {

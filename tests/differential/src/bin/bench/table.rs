@@ -1,7 +1,8 @@
-//! The table of all figures, and the summary of each shape.
+//! The tables of all figures, and the summary of each shape.
 
 use crate::calls::{LONGEST, ONE_ENTRY};
 use crate::meter::Meter;
+use crate::readers;
 
 /// The sizes that the summary is about.
 const LARGEST: usize = 2_000;
@@ -125,4 +126,23 @@ fn print_line(name: &str, text: impl Fn(&Column) -> String) {
         print!("{:>16}", text(column));
     }
     println!();
+}
+
+/// The table of the readers: by call, of the proved and the plain engine.
+pub fn print_readers(calls: &[(&str, [f64; 2])], meter: &impl Meter) {
+    println!("\nReaders' bits; a figure is that of all calls.");
+    println!(
+        "{:<12}{:>6}  {:<16}{:>15}{:>15}{:>10}",
+        "shape", "size", "call", "proved", "plain", "/plain"
+    );
+    for (call, figures) in calls {
+        let [proved, plain] = *figures;
+        let [a, b] = figures.map(|figure| meter.show(figure));
+        println!(
+            "{:<12}{:>6}  {call:<16}{a:>15}{b:>15}{:>10.2}",
+            readers::SHAPE,
+            readers::SIZE,
+            proved / plain
+        );
+    }
 }

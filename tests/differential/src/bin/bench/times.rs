@@ -2,6 +2,7 @@
 
 use crate::calls::{Buffers, Call, Setting, ENGINES};
 use crate::meter::Meter;
+use crate::readers;
 use reference::engine::Engine;
 use std::hint::black_box;
 use std::time::{Duration, Instant};
@@ -18,6 +19,23 @@ pub struct Times {
     pub repetitions: usize,
 }
 
+impl Times {
+    /// The median time of each engine. They are measured in turn, so that a busy machine slows all.
+    fn in_turn<T, const N: usize>(
+        &self,
+        engines: &[T; N],
+        mut measure: impl FnMut(&T) -> f64,
+    ) -> [f64; N] {
+        let mut times = [(); N].map(|()| Vec::with_capacity(self.repetitions));
+        for _ in 0..self.repetitions {
+            for (engine, times) in engines.iter().zip(&mut times) {
+                times.push(measure(engine));
+            }
+        }
+        times.map(median)
+    }
+}
+
 impl Meter for Times {
     fn engines(&mut self, setting: &Setting, call: &Call) -> [f64; 3] {
         let mut buffers = vec![call.buffers(setting)];
@@ -26,14 +44,15 @@ impl Meter for Times {
         let times = engines.map(|engine| time(&engine, setting, call, &mut buffers));
         let shortest = times.into_iter().fold(f64::INFINITY, f64::min);
         buffers.resize(at_once(shortest), call.buffers(setting));
-        let mut times = engines.map(|_| Vec::with_capacity(self.repetitions));
-        for _ in 0..self.repetitions {
-            // In turn, so that a busy machine slows all.
-            for (engine, times) in engines.iter().zip(&mut times) {
-                times.push(time(engine, setting, call, &mut buffers));
-            }
-        }
-        times.map(median)
+        self.in_turn(&engines, |engine| time(engine, setting, call, &mut buffers))
+    }
+
+    fn readers(&mut self, call: &readers::Call) -> [f64; 2] {
+        self.in_turn(&readers::ENGINES, |(_, engine)| {
+            let start = Instant::now();
+            call.make(*engine);
+            microseconds(start.elapsed())
+        })
     }
 
     fn floor(&mut self, setting: &Setting) -> f64 {
