@@ -1,5 +1,5 @@
-/* stack SITE JOURNAL: the bytes of stack that the site check, the fresh state, its check, the run of the journal and the calls of 26-bit readers use,
- * a line each, with the function that makes the call. Each runs on a stack of its own, painted before. */
+/* stack SITE JOURNAL: the bytes of stack that each call uses, a line each, with the function that makes the call. Each runs on a stack of its own,
+ * painted before. */
 #define _XOPEN_SOURCE 700
 #include "warblehay.h"
 
@@ -11,7 +11,7 @@ enum { STACK_SIZE = 1 << 16, PAINT = 0xC5 };
 
 static uint8_t stack[STACK_SIZE];
 static uint8_t site[WARBLEHAY_LARGEST_SITE], state[sizeof site], journal[WARBLEHAY_LARGEST_JOURNAL], answers[sizeof journal];
-static size_t site_length, journal_length;
+static size_t site_length, journal_length, place;
 static uint32_t returned, card_bits;
 static uint8_t format, value[8];
 static ucontext_t caller, callee;
@@ -46,7 +46,22 @@ static void run(void)
     returned = warblehay_run_journal(site, site_length, state, site_length, journal, journal_length, answers, answers_length);
 }
 
-/* It is never turned back. */
+/* The lookups and the writing of bits are never turned back. */
+static void place_of_zone(void)
+{
+    place = warblehay_place_of_zone(site, site_length, WARBLEHAY_NONE);
+}
+
+static void place_of_point(void)
+{
+    place = warblehay_place_of_point(site, site_length, WARBLEHAY_NONE);
+}
+
+static void place_of_credential(void)
+{
+    place = warblehay_place_of_credential(site, site_length, WARBLEHAY_NONE);
+}
+
 static void write_wiegand26(void)
 {
     card_bits = warblehay_write_wiegand26(131, 77);
@@ -83,7 +98,9 @@ int main(int count, char **arguments)
     if (site_length == 0 || journal_length == 0)
         return 1;
 
-    void (*const calls[])(void) = {check_site, fresh, check_state, run, write_wiegand26, read_wiegand26};
+    void (*const calls[])(void) = {
+        check_site, fresh, check_state, run, place_of_zone, place_of_point, place_of_credential, write_wiegand26, read_wiegand26
+    };
     for (size_t index = 0; index < sizeof calls / sizeof *calls; index++) {
         size_t used = used_by(calls[index]);
         if (returned != WARBLEHAY_WORKED_THROUGH)

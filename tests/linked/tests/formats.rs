@@ -344,3 +344,36 @@ fn entries_have_their_ranges() {
 fn an_answer_has_no_spare_byte() {
     assert_eq!(spare(&fields("ANSWER_"), ANSWER_SIZE), [0; 0]);
 }
+
+/// The words of the document's line that says so, with their marks of thousands taken out.
+fn words_of_line(said: &str) -> Vec<String> {
+    let document = std::fs::read_to_string(library::repository("docs/FORMATS.md"));
+    let document = document.expect("the document is there");
+    let mut lines = document.lines().filter(|line| line.contains(said));
+    let words = lines.next().expect("the line is there").split_whitespace();
+    assert_eq!(lines.next(), None, "it stands there once");
+    words.map(|word| word.replace(',', "")).collect()
+}
+
+/// The bits, their number and the value of the card that "Raw 26-bit readers" has as its example.
+#[test]
+fn the_card_of_the_example() {
+    let bits = words_of_line("the bits, ");
+    let number = warblehay::write_wiegand26(131, 77);
+    assert_eq!(bits[..4].concat(), format!("{number:026b}"));
+    assert!(bits.contains(&number.to_string()));
+
+    let value = words_of_line("the value, ");
+    let factor = warblehay::read_wiegand26(number.into(), WIEGAND26_BITS).expect("26 bits");
+    let digits: String = factor
+        .value
+        .iter()
+        .map(|byte| format!("{byte:02X}"))
+        .collect();
+    assert_eq!(value[..3].concat(), digits);
+    assert_eq!(value.last(), Some(&factor.format.to_string()));
+
+    let changed = warblehay::read_wiegand26((number ^ 0b110).into(), WIEGAND26_BITS);
+    let value = changed.expect("26 bits").value;
+    assert_eq!(value[5..], [131, 0, 78], "as the document says");
+}

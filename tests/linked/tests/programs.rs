@@ -145,7 +145,7 @@ fn the_stack_stays_small() {
             .lines()
             .filter_map(|line| line.parse().ok())
             .collect();
-        assert_eq!(used.len(), 6, "a number for each call");
+        assert_eq!(used.len(), 9, "a number for each call");
         assert!(
             used.iter().all(|used| (1..STACK).contains(used)),
             "{used:?} bytes"
