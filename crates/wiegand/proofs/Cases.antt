@@ -4,14 +4,14 @@ use mathlib.Core.Path.{_≡_, refl}
 use mathlib.Core.List.{[], _∷_}
 use mathlib.Core.Bool.{true, false}
 use Rattle.octets.specs.Octets.{field, digits}
-use Rattle.wiegand.specs.Wiegand.{bits, numberOf, facilityOf, cardOf, numberOfOnes, isEven, isOdd, firstParity, lastParity, factor, readingError, nothingMade, factorOf, readWiegand26, returnedNumber, between, written, writeWiegand26}
+use Rattle.wiegand.specs.Wiegand.{bits, numberOf, facilityOf, cardOf, numberOfOnes, isEven, isOdd, firstParity, lastParity, factor, readingError, nothingMade, factorOf, readWiegand26, returnedNumber, between, firstBit, lastBit, written, writeWiegand26}
 use Rattle.wiegand.specs.Theorems.{facilityIn, cardIn, changed}
 use Rattle.wiegand.specs.declared.Reading.{Reading}
 use Rattle.wiegand.specs.declared.BitsReturned.the-variants.{WorkedThrough, NotTwentySixBits}
 
 -- One name that opens the definitions.
 unfoldable pub readers : Unit {0}
-unfolding field digits bits numberOf facilityOf cardOf numberOfOnes isEven isOdd firstParity lastParity factor readingError nothingMade factorOf readWiegand26 between written writeWiegand26 facilityIn cardIn changed
+unfolding field digits bits numberOf facilityOf cardOf numberOfOnes isEven isOdd firstParity lastParity factor readingError nothingMade factorOf readWiegand26 between firstBit lastBit written writeWiegand26 facilityIn cardIn changed
 readers = tt
 
 -- A factor of format 8 with its last three octets; a reading error; nothing made.

@@ -10,7 +10,7 @@ use lib.Dec.{eqb, lit<}
 use lib.ListN.{drop, length-append}
 use lib.Pow.{high, low}
 use Rattle.model.specs.Words.{bitOf}
-use Rattle.wiegand.specs.Wiegand.{bits, numberOf, numberOfOnes, facilityOf, cardOf, firstParity, lastParity, isEven, isOdd, between, written, writeWiegand26}
+use Rattle.wiegand.specs.Wiegand.{bits, numberOf, numberOfOnes, facilityOf, cardOf, firstParity, lastParity, isEven, isOdd, between, firstBit, lastBit, written, writeWiegand26}
 use Rattle.wiegand.proofs.Bits.{length-bits, bits-join, bits-mod, take-bits, drop-bits, number-bits, number-append, ones-bits}
 
 pub first-parity : (n : ℕ) → firstParity (bits 26 n) ≡ isEven (ones (n / 8192 % 8192))
@@ -60,7 +60,7 @@ odd-bit n = odd-below (n % 2) (mod-lt n (lit< tt))
 
 pub written-number : (f c : ℕ) → f < 256 → c < 65536
     → writeWiegand26 f c ≡ ones ((f * 65536 + c) / 4096) % 2 * 33554432 + (f * 65536 + c) * 2 + (1 - ones ((f * 65536 + c) % 4096) % 2)
-unfolding writeWiegand26 written numberOf
+unfolding writeWiegand26 written firstBit lastBit numberOf
 written-number f c a b =
     let n = f * 65536 + c in
     let m : n % 16777216 ≡ n = mod-eq-of-lt (omega arith) in

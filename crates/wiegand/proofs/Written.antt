@@ -15,7 +15,7 @@ use Rattle.octets.proofs.Laws.{field-digits}
 use Rattle.model.specs.Words.{if_then_else_, bit, bitOf, zeros}
 use Rattle.model.proofs.Laws.{and-left, and-right, or-left, or-right}
 use Rattle.wiegand.specs.declared.Reading.{Reading}
-use Rattle.wiegand.specs.Wiegand.{bits, numberOf, numberOfOnes, isEven, isOdd, firstParity, lastParity, facilityOf, cardOf, factor, factorOf, readingError, nothingMade, readWiegand26, between, written, writeWiegand26, format-wiegand26}
+use Rattle.wiegand.specs.Wiegand.{bits, numberOf, numberOfOnes, isEven, isOdd, firstParity, lastParity, facilityOf, cardOf, factor, factorOf, readingError, nothingMade, readWiegand26, between, firstBit, lastBit, written, writeWiegand26, format-wiegand26}
 use Rattle.wiegand.specs.Theorems.{facilityIn, cardIn, ReadBack, OnlyWritten, NoneShared}
 use Rattle.wiegand.proofs.Bits.{length-bits, bits-join, bits-mod, number-bits, number-lt, bits-number, ones-append}
 use Rattle.wiegand.proofs.Fields.{facility-number, card-number}
@@ -52,7 +52,7 @@ length-between f c = rw (length-append (bits 8 f) (bits 16 c), length-bits 8 f, 
 length-written : (f c : ℕ) → length (written f c) ≡ 26
 unfolding written
 length-written f c =
-    rw (length-append (between f c) (isEven (numberOfOnes (drop 12 (between f c))) ∷ []), length-between f c)
+    rw (length-append (between f c) (lastBit f c ∷ []), length-between f c)
 
 pub written-lt : (f c : ℕ) → writeWiegand26 f c < 67108864
 unfolding writeWiegand26
@@ -64,20 +64,16 @@ written-bits f c = rw (length-written f c) at (bits-number (written f c))
 
 -- Both parities are right.
 pub written-first : (f c : ℕ) → firstParity (bits 26 (writeWiegand26 f c)) ≡ true
-unfolding written
+unfolding written firstBit
 written-first f c =
-    rw (
-      written-bits f c,
-      first-around (isOdd (numberOfOnes (take 12 (between f c)))) (isEven (numberOfOnes (drop 12 (between f c)))) (between f c) (length-between f c),
-    ) (even-with (numberOfOnes (take 12 (between f c))))
+    rw (written-bits f c, first-around (firstBit f c) (lastBit f c) (between f c) (length-between f c))
+    (even-with (numberOfOnes (take 12 (between f c))))
 
 pub written-last : (f c : ℕ) → lastParity (bits 26 (writeWiegand26 f c)) ≡ true
-unfolding written
+unfolding written lastBit
 written-last f c =
-    rw (
-      written-bits f c,
-      last-around (isOdd (numberOfOnes (take 12 (between f c)))) (isEven (numberOfOnes (drop 12 (between f c)))) (between f c) (length-between f c),
-    ) (odd-with (numberOfOnes (drop 12 (between f c))))
+    rw (written-bits f c, last-around (firstBit f c) (lastBit f c) (between f c) (length-between f c))
+    (odd-with (numberOfOnes (drop 12 (between f c))))
 
 -- Facility and card stand between the parity bits.
 facility-around : (p q : Bool) (f c : ℕ) → f < 256 → facilityOf (around p (between f c) q) ≡ f
@@ -107,8 +103,8 @@ read-written f c a b =
       written-first f c,
       written-last f c,
       written-bits f c,
-      facility-around (isOdd (numberOfOnes (take 12 (between f c)))) (isEven (numberOfOnes (drop 12 (between f c)))) f c a,
-      card-around (isOdd (numberOfOnes (take 12 (between f c)))) (isEven (numberOfOnes (drop 12 (between f c)))) f c b,
+      facility-around (firstBit f c) (lastBit f c) f c a,
+      card-around (firstBit f c) (lastBit f c) f c b,
     )
 
 -- ── facility and card in the value
@@ -169,15 +165,15 @@ bits-around n = rw (first-bit 25 n, bits-join 24 1 n, last-bit n, between-middle
 
 pub good-written : (n : ℕ) → n < 67108864 → firstParity (bits 26 n) ≡ true → lastParity (bits 26 n) ≡ true
     → n ≡ writeWiegand26 (n / 131072 % 256) (n / 2 % 65536)
-unfolding writeWiegand26 written
+unfolding writeWiegand26 written firstBit lastBit
 good-written n h a b =
     let f = n / 131072 % 256 in
     let c = n / 2 % 65536 in
     let m = between f c in
-    let p : bit n 25 ≡ isOdd (numberOfOnes (take 12 m)) =
+    let p : bit n 25 ≡ firstBit f c =
     even-only (bit n 25) (numberOfOnes (take 12 m))
     (sym (first-around (bit n 25) (bit n 0) m (length-between f c)) ∙ sym (ap firstParity (bits-around n)) ∙ a) in
-    let q : bit n 0 ≡ isEven (numberOfOnes (drop 12 m)) =
+    let q : bit n 0 ≡ lastBit f c =
     odd-only (bit n 0) (numberOfOnes (drop 12 m))
     (sym (last-around (bit n 25) (bit n 0) m (length-between f c)) ∙ sym (ap lastParity (bits-around n)) ∙ b) in
     sym (mod-eq-of-lt h) ∙ sym (number-bits 26 n) ∙ ap numberOf (bits-around n ∙ ap₂ (λ x y. around x m y) p q)

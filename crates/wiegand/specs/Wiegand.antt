@@ -90,13 +90,17 @@ returnedNumber NotTwentySixBits = 17
 unfoldable pub between : ℕ → ℕ → List Bool
 between facility card = bits 8 facility ++ bits 16 card
 
--- The 26 bits: a parity bit is a one where without it the first 13 bits would have an odd number of ones, the last 13 an even number.
+-- The first parity bit: a one where the 12 bits behind it have an odd number of ones.
+unfoldable pub firstBit : ℕ → ℕ → Bool
+firstBit facility card = isOdd (numberOfOnes (take 12 (between facility card)))
+
+-- The last parity bit: a one where the 12 bits before it have an even number of ones.
+unfoldable pub lastBit : ℕ → ℕ → Bool
+lastBit facility card = isEven (numberOfOnes (drop 12 (between facility card)))
+
+-- "a parity bit, 8 bits of facility, 16 of card number, a parity bit."
 unfoldable pub written : ℕ → ℕ → List Bool
-written facility card =
-    isOdd (numberOfOnes (take 12 (between facility card)))
-    ∷ between facility card
-    ++ isEven (numberOfOnes (drop 12 (between facility card)))
-    ∷ []
+written facility card = firstBit facility card ∷ between facility card ++ lastBit facility card ∷ []
 
 -- The way back: the number that the bits come as.
 unfoldable pub writeWiegand26 : ℕ → ℕ → ℕ
