@@ -1,4 +1,4 @@
--- The request's cases, computed: cards to bits and back, bits that are turned away, wrong parities, and what parity does not find.
+-- The request's cases, computed: bits and numbers, cards to bits and back, bits that are turned away, wrong parities, and what parity does not find.
 use Prim.Native.Nat.{ℕ}
 use mathlib.Core.Path.{_≡_, refl}
 use mathlib.Core.List.{[], _∷_}
@@ -23,6 +23,28 @@ error = record { returned = WorkedThrough; format = 1; value = 0 ∷ 0 ∷ 0 ∷
 
 nothing : Reading
 nothing = record { returned = NotTwentySixBits; format = 0; value = 0 ∷ 0 ∷ 0 ∷ 0 ∷ 0 ∷ 0 ∷ 0 ∷ 0 ∷ [] }
+
+-- ── bits and numbers
+
+pub record Bit-cases : Type 0 where
+  -- 11 in four bits, the first bit highest; of a longer number the last bits; no bits.
+  of-number :
+      bits 4 11 ∷ bits 4 2 ∷ bits 4 27 ∷ bits 0 11 ∷ []
+      ≡ (true ∷ false ∷ true ∷ true ∷ []) ∷ (false ∷ false ∷ true ∷ false ∷ []) ∷ (true ∷ false ∷ true ∷ true ∷ []) ∷ [] ∷ []
+  to-number : numberOf (true ∷ false ∷ true ∷ true ∷ []) ∷ numberOf (false ∷ false ∷ true ∷ false ∷ []) ∷ numberOf [] ∷ [] ≡ 11 ∷ 2 ∷ 0 ∷ []
+  ones : numberOfOnes (true ∷ false ∷ true ∷ true ∷ []) ∷ numberOfOnes (false ∷ false ∷ true ∷ false ∷ []) ∷ numberOfOnes [] ∷ [] ≡ 3 ∷ 1 ∷ 0 ∷ []
+  -- No ones are an even number of them.
+  even : isEven 0 ∷ isEven 1 ∷ isEven 2 ∷ isEven 13 ∷ [] ≡ true ∷ false ∷ true ∷ false ∷ []
+  odd : isOdd 0 ∷ isOdd 1 ∷ isOdd 2 ∷ isOdd 13 ∷ [] ≡ false ∷ true ∷ false ∷ true ∷ []
+  -- Facility 0xA5 and card 0x1234: three bytes that differ.
+  together : between 0xA5 0x1234 ≡ bits 24 0xA51234
+  apart : facilityOf (bits 26 0x34A2469) ∷ cardOf (bits 26 0x34A2469) ∷ [] ≡ 0xA5 ∷ 0x1234 ∷ []
+  in-value : facilityIn (octets 0xA5 0x12 0x34) ∷ cardIn (octets 0xA5 0x12 0x34) ∷ [] ≡ 0xA5 ∷ 0x1234 ∷ []
+
+pub bit-cases : Bit-cases
+unfolding readers octets
+bit-cases =
+    record { of-number = refl; to-number = refl; ones = refl; even = refl; odd = refl; together = refl; apart = refl; in-value = refl }
 
 -- ── cards to bits and back
 
@@ -52,12 +74,14 @@ card-cases =
 pub record Turned-away-cases : Type 0 where
   -- 67,108,863 is 26 bits, all ones: an odd number of them in the first 13. The next number is turned away.
   largest : readWiegand26 67108863 26 ∷ readWiegand26 67108864 26 ∷ [] ≡ error ∷ nothing ∷ []
-  -- A good card with the bits above it, as a longer reader would hand it over.
-  longer : readWiegand26 117833883 26 ≡ nothing
-  -- Counts of 25, 26 and 27, and of none.
+  -- A good card with a bit above it, as a longer reader would hand it over: bit 26, and bit 32, beyond four bytes.
+  longer : readWiegand26 117833883 26 ∷ readWiegand26 4345692315 26 ∷ [] ≡ nothing ∷ nothing ∷ []
+  -- Counts of 25, 26 and 27, and of none; 282, which in one byte is 26.
   counts :
-      readWiegand26 50725019 25 ∷ readWiegand26 50725019 26 ∷ readWiegand26 50725019 27 ∷ readWiegand26 50725019 0 ∷ []
-      ≡ nothing ∷ octets 0x83 0x00 0x4D ∷ nothing ∷ nothing ∷ []
+      readWiegand26 50725019 25 ∷ readWiegand26 50725019 26 ∷ readWiegand26 50725019 27 ∷ readWiegand26 50725019 0 ∷ readWiegand26 50725019 282 ∷ []
+      ≡ nothing ∷ octets 0x83 0x00 0x4D ∷ nothing ∷ nothing ∷ nothing ∷ []
+  -- 1 is a good card, and a number of 25 bits as well.
+  fewer : readWiegand26 1 25 ∷ readWiegand26 1 26 ∷ [] ≡ nothing ∷ octets 0x00 0x00 0x00 ∷ []
   -- The count is asked before parity: wrong parity in 27 bits is no reading error.
   order : readWiegand26 0 27 ∷ readWiegand26 0 26 ∷ [] ≡ nothing ∷ error ∷ []
   -- Their numbers.
@@ -65,7 +89,8 @@ pub record Turned-away-cases : Type 0 where
 
 pub turned-away-cases : Turned-away-cases
 unfolding readers octets error nothing
-turned-away-cases = record { largest = refl; longer = refl; counts = refl; order = refl; returned = refl }
+turned-away-cases =
+    record { largest = refl; longer = refl; counts = refl; fewer = refl; order = refl; returned = refl }
 
 pub record Parity-cases : Type 0 where
   -- The first parity wrong, the last, both at once.

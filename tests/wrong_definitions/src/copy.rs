@@ -1,6 +1,7 @@
-//! A working copy: the crate `octets` with its definitions alone, and a crate `model` with the definitions and, as its proofs, the cases. They
-//! stand in one crate so that one check, which goes over what a change reaches, tries it. A copy for statements has the proofs of the crate `model` instead.
+//! A working copy, in which wrong definitions are tried one after the other.
 
+use crate::disk::{failed, read, write};
+use crate::layout::Layout;
 use std::collections::{BTreeMap, BTreeSet};
 use std::fs;
 use std::os::unix::process::CommandExt;
@@ -17,17 +18,6 @@ pub enum Verdict {
     NotEnded,
 }
 
-/// The modules of the model's proofs that the cases rest on, and those that are cases themselves.
-const BASE: [&str; 3] = ["Open", "Build", "Parts"];
-const COMPUTED: [&str; 3] = ["Cases", "Applied", "Premises"];
-
-/// What a copy has as proofs: all cases, or the proofs of the model, the theorems' among them.
-#[derive(Clone, Copy, PartialEq, Eq)]
-pub enum Proofs {
-    Cases,
-    Theorems,
-}
-
 const LIMIT: Duration = Duration::from_secs(120);
 
 /// The same, with the module of the case that refused it.
@@ -39,32 +29,9 @@ pub struct Outcome {
 /// The cases are kept by module.
 pub struct WorkingCopy {
     root: PathBuf,
+    layout: Layout,
     cases: BTreeMap<String, String>,
     whole: bool,
-}
-
-fn failed<T>(what: &Path, e: std::io::Error) -> Result<T, String> {
-    Err(format!("{}: {e}", what.display()))
-}
-
-fn write(path: &Path, text: &str) -> Result<(), String> {
-    let made =
-        fs::create_dir_all(path.parent().unwrap_or(path)).and_then(|()| fs::write(path, text));
-    made.or_else(|e| failed(path, e))
-}
-
-fn copy_dir(from: &Path, to: &Path) -> Result<(), String> {
-    for entry in fs::read_dir(from).or_else(|e| failed(from, e))? {
-        let path = entry.or_else(|e| failed(from, e))?.path();
-        let copied = to.join(path.file_name().unwrap_or_default());
-        if path.is_dir() {
-            copy_dir(&path, &copied)?;
-            continue;
-        }
-        let text = fs::read_to_string(&path).or_else(|e| failed(&path, e))?;
-        write(&copied, &text)?;
-    }
-    Ok(())
 }
 
 impl WorkingCopy {
@@ -72,38 +39,17 @@ impl WorkingCopy {
     pub fn new(
         repository: &Path,
         root: &Path,
-        proofs: Proofs,
+        layout: Layout,
         whole: bool,
     ) -> Result<WorkingCopy, String> {
         if root.exists() {
             fs::remove_dir_all(root).or_else(|e| failed(root, e))?;
         }
-        let from = |path: &str| repository.join("crates").join(path);
-        let to = |path: &str| root.join("crates").join(path);
-        write(&root.join("crates.txt"), "octets:\nmodel: octets\n")?;
-        for dir in ["octets/specs", "model/src", "model/specs"] {
-            copy_dir(&from(dir), &to(dir))?;
-        }
-        if proofs == Proofs::Theorems {
-            copy_dir(&from("octets/src"), &to("octets/src"))?;
-            copy_dir(&from("octets/proofs"), &to("octets/proofs"))?;
-        } else {
-            write(&to("octets/src/lib.rt"), "// Definitions alone.\n")?;
-        }
-        for name in BASE {
-            let file = format!("model/proofs/{name}.antt");
-            write(&to(&file), &read(&from(&file))?)?;
-        }
-        let mut cases = modules(&from("model/proofs"), &|name| {
-            let wanted = COMPUTED.contains(&name) || proofs == Proofs::Theorems;
-            wanted && !BASE.contains(&name)
-        })?;
-        if proofs == Proofs::Cases {
-            cases.extend(modules(&from("cases/proofs"), &|_| true)?);
-        }
+        layout.write(repository, root)?;
         Ok(WorkingCopy {
             root: root.to_path_buf(),
-            cases,
+            layout,
+            cases: layout.cases(repository)?,
             whole,
         })
     }
@@ -111,7 +57,7 @@ impl WorkingCopy {
     /// What becomes of a file (as `model/specs/Site.antt`) made `text`; the file is put back. The cases of the module `first` are tried before all.
     pub fn outcome(&self, file: &str, text: &str, first: &str) -> Result<Outcome, String> {
         let path = self.root.join("crates").join(file);
-        let before = fs::read_to_string(&path).or_else(|e| failed(&path, e))?;
+        let before = read(&path)?;
         write(&path, text)?;
         let outcome = self.tried(first);
         write(&path, &before)?;
@@ -151,11 +97,13 @@ impl WorkingCopy {
 
     /// The check of the definitions with some modules of cases.
     fn check(&self, modules: &BTreeSet<String>) -> Result<Outcome, String> {
-        let proofs = self.root.join("crates/model/proofs");
-        let mut list: String = BASE
-            .iter()
-            .map(|name| format!("pub mod {name}\n"))
-            .collect();
+        let proofs = self
+            .root
+            .join("crates")
+            .join(self.layout.subject.name())
+            .join("proofs");
+        let base = self.layout.base().iter();
+        let mut list: String = base.map(|name| format!("pub mod {name}\n")).collect();
         for (name, text) in &self.cases {
             let path = proofs.join(format!("{name}.antt"));
             if modules.contains(name) {
@@ -173,7 +121,7 @@ impl WorkingCopy {
                 module: None,
             });
         };
-        let said = fs::read_to_string(&log).or_else(|e| failed(&log, e))?;
+        let said = read(&log)?;
         Ok(if proved {
             Outcome {
                 verdict: Verdict::Accepted,
@@ -187,10 +135,11 @@ impl WorkingCopy {
     /// Whether the check proves all; nothing if it does not end in time.
     fn run(&self, log: &Path) -> Result<Option<bool>, String> {
         let verb = if self.whole { "check" } else { "dev" };
+        let name = self.layout.subject.name();
         let out = fs::File::create(log).or_else(|e| failed(log, e))?;
         let err = out.try_clone().or_else(|e| failed(log, e))?;
         let mut shell = Command::new("sh");
-        shell.args(["-c", &format!("ulimit -d 6000000; exec rt {verb} model")]);
+        shell.args(["-c", &format!("ulimit -d 6000000; exec rt {verb} {name}")]);
         shell
             .current_dir(&self.root)
             .stdin(Stdio::null())
@@ -217,8 +166,9 @@ impl WorkingCopy {
     /// A failed check refuses the change where its errors are in cases alone and one is a fact that does not hold. An error in the definitions,
     /// or in what the cases rest on, makes errors in the cases too, and says nothing of them.
     fn judged(&self, said: &str) -> Outcome {
+        let name = self.layout.subject.name();
         let case_of = |line: &str| {
-            let in_case = |c: &&String| line.contains(&format!("/model/proofs/{c}.antt:"));
+            let in_case = |c: &&String| line.contains(&format!("/{name}/proofs/{c}.antt:"));
             self.cases.keys().find(in_case).cloned()
         };
         let errors: Vec<&str> = said.lines().filter(|l| l.contains(": error: ")).collect();
@@ -233,42 +183,21 @@ impl WorkingCopy {
     }
 }
 
-fn read(path: &Path) -> Result<String, String> {
-    fs::read_to_string(path).or_else(|e| failed(path, e))
-}
-
-/// The modules of a directory of proofs that pass a test, with the names that modules have within the crate `model`.
-fn modules(
-    directory: &Path,
-    test: &dyn Fn(&str) -> bool,
-) -> Result<BTreeMap<String, String>, String> {
-    let list = read(&directory.join("Lib.antt"))?;
-    let names = list.lines().filter_map(|l| l.strip_prefix("pub mod "));
-    names
-        .filter(|name| test(name))
-        .map(|name| {
-            let text = read(&directory.join(format!("{name}.antt")))?;
-            Ok((name.to_string(), in_model(&text)))
-        })
-        .collect()
-}
-
-/// A file of cases with the names that modules have within the crate `model`.
-fn in_model(text: &str) -> String {
-    text.replace("Rattle.model.proofs.", "Rattle.model.proofs.")
-        .replace("Rattle.model.specs.", "Rattle.model.specs.")
-        .replace("Rattle.cases.proofs.", "Rattle.model.proofs.")
-}
-
 #[cfg(test)]
 mod tests {
     use super::*;
+    use crate::layout::Proofs;
+    use crate::subject::Subject;
 
     #[test]
     fn a_type_error_is_no_refusal() {
         let cases = BTreeMap::from([("Runs".to_string(), String::new())]);
         let copy = WorkingCopy {
             root: PathBuf::new(),
+            layout: Layout {
+                subject: Subject::Model,
+                proofs: Proofs::Cases,
+            },
             cases,
             whole: false,
         };

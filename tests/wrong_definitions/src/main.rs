@@ -1,6 +1,7 @@
-//! Tries wrong definitions: each definition of `crates/octets/specs` and `crates/model/specs` with one change in one place, made by rule
-//! (`rules.rs`) or by hand (the file `list`), against the computed cases of `crates/cases` and `crates/model/proofs`. Each shall be refused by a
-//! case; those of what the theorems state (`Part`, `Earned`, `Demands`) by a case or by a theorem's proof.
+//! Tries wrong definitions: each definition of `crates/octets/specs`, `crates/model/specs` and `crates/wiegand/specs` with one change in one
+//! place, made by rule (`rules.rs`) or by hand (the file `list`), against the computed cases of `crates/cases`, `crates/model/proofs` and
+//! `crates/wiegand/proofs`. Each shall be refused by a case; those of what the theorems state (`Part`, `Earned` and `Demands` of the model,
+//! `Theorems` of the 26-bit readers) by a case or by a theorem's proof.
 //!
 //!     cargo run --release --offline --manifest-path tests/Cargo.toml -p wrong_definitions -- [OPTIONS]
 //!
@@ -19,34 +20,34 @@
 
 mod copy;
 mod definitions;
+mod disk;
 mod edits;
 mod imports;
+mod layout;
 mod names;
 mod options;
 mod rules;
+mod subject;
 mod tokens;
 mod trial;
 mod wrong;
 
 use copy::Verdict;
 use definitions::File;
-use names::Names;
+use disk::read;
 use options::Options;
 use std::collections::BTreeSet;
 use std::fs;
 use std::path::{Path, PathBuf};
 use std::process::ExitCode;
+use subject::Subject;
 use trial::Trial;
 use wrong::Wrong;
-
-fn read(path: &Path) -> Result<String, String> {
-    fs::read_to_string(path).map_err(|e| format!("{}: {e}", path.display()))
-}
 
 /// The files of definitions, but for the lists of modules.
 fn spec_files(repository: &Path) -> Result<Vec<File>, String> {
     let mut files = Vec::new();
-    for dir in ["octets/specs", "model/specs"] {
+    for dir in Subject::ALL.iter().flat_map(|s| s.specs()) {
         let path = repository.join("crates").join(dir);
         let entries = fs::read_dir(&path).map_err(|e| format!("{}: {e}", path.display()))?;
         let mut names: Vec<String> = entries
@@ -106,7 +107,7 @@ fn run() -> Result<ExitCode, String> {
         .canonicalize()
         .map_err(|e| e.to_string())?;
     let files = spec_files(&repository)?;
-    let names = Names::new(&files, &read(&repository.join("crates/model/src/lib.rt"))?);
+    let names = names::all_names(&repository, &files)?;
     let mut all = wrong::by_rule(&files, &names);
     all.extend(wrong::by_hand(
         &files,

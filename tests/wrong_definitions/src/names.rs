@@ -1,8 +1,14 @@
-//! Names that can stand for one another: fields of one type in one struct, constants of one family, variants of one enum, definitions of
-//! one type in one file.
+//! Names that can stand for one another, of each subject: fields of one type in one struct, constants of one family, variants of one enum,
+//! definitions of one type in one file.
 
 use crate::definitions::File;
+use crate::disk::read;
+use crate::subject::{Subject, NUMBERS};
 use std::collections::BTreeMap;
+use std::path::Path;
+
+/// The names of each subject.
+pub type AllNames = BTreeMap<Subject, Names>;
 
 /// For each name the one to try in its place.
 #[derive(Default)]
@@ -15,9 +21,20 @@ pub struct Names {
     definitions: BTreeMap<(String, String), String>,
 }
 
+/// From the files of definitions and the code of each subject.
+pub fn all_names(repository: &Path, files: &[File]) -> Result<AllNames, String> {
+    let of = |subject: Subject| {
+        let code = read(&repository.join("crates").join(subject.code()))?;
+        let named = |f: &&File| Subject::of(&f.name) == subject || f.name == NUMBERS;
+        let files: Vec<&File> = files.iter().filter(named).collect();
+        Ok((subject, Names::new(&files, &code)))
+    };
+    Subject::ALL.into_iter().map(of).collect()
+}
+
 impl Names {
-    /// From the files of definitions and the structs and enums of the model's code.
-    pub fn new(files: &[File], code: &str) -> Names {
+    /// From files of definitions, and code with structs and enums.
+    pub fn new(files: &[&File], code: &str) -> Names {
         let mut names = Names::default();
         for (name, items) in declared(code) {
             names.add_declared(&name, &items);
@@ -178,7 +195,7 @@ mod tests {
     fn siblings_have_one_type() {
         let code = "pub struct S {\n    pub a: u8,\n    pub b: bool,\n    pub c: u32,\n}\npub enum E {\n    X,\n    Y,\n}\n";
         let numbers = "abbrev pub role-a : ℕ\nrole-a = 0\n\nabbrev pub b : ℕ\nb = 1\n\nabbrev pub role-c : ℕ\nrole-c = 2\n";
-        let names = Names::new(&[File::new("Numbers.antt", numbers.to_string())], code);
+        let names = Names::new(&[&File::new("Numbers.antt", numbers.to_string())], code);
         assert_eq!(names.siblings("a"), ["c"]);
         assert!(names.siblings("b").is_empty());
         assert_eq!(names.variant("Y").unwrap(), "X");

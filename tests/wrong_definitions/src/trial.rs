@@ -1,32 +1,34 @@
 //! Wrong definitions tried, in as many working copies at once as there are jobs.
 
-use crate::copy::{Proofs, Verdict, WorkingCopy};
+use crate::copy::{Verdict, WorkingCopy};
 use crate::definitions::File;
 use crate::imports::with_imports;
-use crate::names::Names;
+use crate::layout::{Layout, Proofs};
+use crate::names::AllNames;
 use crate::options::Options;
+use crate::subject::Subject;
 use crate::wrong::{added, Wrong};
-use std::collections::BTreeMap;
+use std::collections::{BTreeMap, BTreeSet};
 use std::path::Path;
 use std::sync::atomic::{AtomicUsize, Ordering};
 use std::sync::Mutex;
 
-/// The files of what the theorems state: a change that no case refuses is tried on the theorems' proofs too.
-const STATEMENTS: [&str; 3] = [
-    "model/specs/Part.antt",
-    "model/specs/Earned.antt",
-    "model/specs/Demands.antt",
-];
-
-fn is_statement(w: &Wrong) -> bool {
-    STATEMENTS.contains(&w.file.as_str())
+/// The copies that a change is tried in: one of what the theorems state that no case refuses is tried on the theorems' proofs too.
+fn layouts(w: &Wrong) -> Vec<Layout> {
+    let subject = Subject::of(&w.file);
+    let with = |proofs| Layout { subject, proofs };
+    let mut layouts = vec![with(Proofs::Cases)];
+    if subject.statements().contains(&w.file.as_str()) {
+        layouts.push(with(Proofs::Theorems));
+    }
+    layouts
 }
 
 /// What is tried, and where.
 pub struct Trial<'a> {
     pub wrong: &'a [Wrong],
     pub files: &'a [File],
-    pub names: &'a Names,
+    pub names: &'a AllNames,
     pub repository: &'a Path,
 }
 
@@ -57,26 +59,33 @@ impl Trial<'_> {
 
     /// One job: the next wrong definition, while there is one.
     fn work(&self, job: usize, whole: bool, shared: &Shared) -> Result<(), String> {
-        let mut copies = Vec::from([self.copy(&format!("copy{job}"), Proofs::Cases, whole)?]);
-        if self.wrong.iter().any(is_statement) {
-            copies.push(self.copy(&format!("theorems{job}"), Proofs::Theorems, whole)?);
-        }
+        let copies = self.copies(job, whole)?;
         loop {
             let i = shared.next.fetch_add(1, Ordering::Relaxed);
             let Some(w) = self.wrong.get(i) else {
                 return Ok(());
             };
-            let text = with_imports(&w.text, &added(w, self.files), self.names);
-            let tried = if is_statement(w) { copies.len() } else { 1 };
-            let verdict = shared.verdict(w, &text, &copies[..tried])?;
+            let subject = Subject::of(&w.file);
+            let added = added(w, self.files);
+            let text = with_imports(&w.text, &added, subject, &self.names[&subject]);
+            let tried: Vec<&WorkingCopy> = layouts(w).iter().map(|l| &copies[l]).collect();
+            let verdict = shared.verdict(w, &text, &tried)?;
             shared.verdicts.lock().expect("a job does not panic")[i] = verdict;
         }
     }
 
+    /// The working copies of a job.
+    fn copies(&self, job: usize, whole: bool) -> Result<BTreeMap<Layout, WorkingCopy>, String> {
+        let layouts: BTreeSet<Layout> = self.wrong.iter().flat_map(layouts).collect();
+        let copy = |layout| Ok((layout, self.copy(layout, job, whole)?));
+        layouts.into_iter().map(copy).collect()
+    }
+
     /// A working copy in which all holds.
-    fn copy(&self, name: &str, proofs: Proofs, whole: bool) -> Result<WorkingCopy, String> {
-        let root = self.repository.join("target/wrong_definitions").join(name);
-        let copy = WorkingCopy::new(self.repository, &root, proofs, whole)?;
+    fn copy(&self, layout: Layout, job: usize, whole: bool) -> Result<WorkingCopy, String> {
+        let copies = self.repository.join("target/wrong_definitions");
+        let root = copies.join(layout.directory(job));
+        let copy = WorkingCopy::new(self.repository, &root, layout, whole)?;
         if copy.check_all()?.verdict == Verdict::Accepted {
             return Ok(copy);
         }
@@ -90,7 +99,7 @@ impl Trial<'_> {
 
 impl Shared {
     /// The verdict on one, of the first copy that does not accept it; what is not refused is printed.
-    fn verdict(&self, w: &Wrong, text: &str, copies: &[WorkingCopy]) -> Result<Verdict, String> {
+    fn verdict(&self, w: &Wrong, text: &str, copies: &[&WorkingCopy]) -> Result<Verdict, String> {
         let definition = format!("{} {}", w.file, w.definition);
         let first = self.first_module(&definition, &w.file);
         let mut outcome = copies[0].outcome(&w.file, text, &first)?;

@@ -2,8 +2,9 @@
 
 use crate::definitions::{Definition, File};
 use crate::edits::Edit;
-use crate::names::Names;
+use crate::names::AllNames;
 use crate::rules;
+use crate::subject::Subject;
 use crate::tokens::plain;
 use std::collections::BTreeSet;
 
@@ -60,9 +61,10 @@ fn shown(file: &File, d: &Definition, change: &rules::Change) -> (String, String
 }
 
 /// Those that the rules make.
-pub fn by_rule(files: &[File], names: &Names) -> Vec<Wrong> {
+pub fn by_rule(files: &[File], names: &AllNames) -> Vec<Wrong> {
     let mut found = Vec::new();
     for file in files {
+        let names = &names[&Subject::of(&file.name)];
         for d in &file.definitions {
             for change in rules::changes(file, d, names) {
                 let (old, new) = shown(file, d, &change);
