@@ -30,7 +30,7 @@ module _ {A : Type 0} where
 abbrev pub zeros : ℕ → List ℕ
 zeros n = replicate n 0
 
--- Bit i of a byte, bit 0 the lowest.
+-- Bit i of a byte or of a longer number, bit 0 the lowest.
 abbrev pub bit : ℕ → ℕ → Bool
 bit byte i = eqb (byte / 2 ^ i % 2) 1
 

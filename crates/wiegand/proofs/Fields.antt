@@ -1,7 +1,7 @@
 -- The parts of 26 bits as numbers: their halves, facility and card.
 use mathlib.Core.Path.{_≡_, refl, sym, ap, _∙_}
 use mathlib.Core.List.{[], _∷_}
-use mathlib.Core.Bool.{not}
+use mathlib.Core.Bool.{Bool, true, false, not}
 use Prim.Native.Nat.{ℕ, zero, suc, _+_, _*_, _/_, _%_, _-_, _<_}
 use native.Mathlib.Nat.{mod-eq-of-lt, mod-lt}
 use native.Mathlib.Omega.{arith}
@@ -32,31 +32,30 @@ card-number n = rw (drop-bits 9 17 n, take-bits 16 1 n, number-bits 16 (n / 2))
 -- ── the way back
 
 -- The bits between the parity bits are those of facility and card as one number.
-pub between-bits : (f c : ℕ) → c < 65536 → between f c ≡ bits 24 (f * 65536 + c)
+between-bits : (f c : ℕ) → c < 65536 → between f c ≡ bits 24 (f * 65536 + c)
 unfolding between
 between-bits f c h =
     let n = f * 65536 + c in
     let l : bits 16 n ≡ bits 16 c = sym (bits-mod 0 16 n) ∙ ap (bits 16) (low f 16 h) in
     rw (bits-join 8 16 n, high f 16 h, l)
 
--- Of a number below 2: whether it is even, and whether it is odd.
+-- A parity bit as a number.
 even-below : (m : ℕ) → m < 2 → bitOf (eqb m 0) ≡ 1 - m
 even-below zero h = refl
 even-below (suc zero) h = refl
 even-below (suc (suc m)) h = absurd (omega arith)
 
-odd-below : (m : ℕ) → m < 2 → bitOf (not (eqb m 0)) ≡ m
-odd-below zero h = refl
-odd-below (suc zero) h = refl
-odd-below (suc (suc m)) h = absurd (omega arith)
-
-even-bit : (n : ℕ) → bitOf (isEven n) ≡ 1 - n % 2
+even-number : (n : ℕ) → bitOf (isEven n) ≡ 1 - n % 2
 unfolding isEven
-even-bit n = even-below (n % 2) (mod-lt n (lit< tt))
+even-number n = even-below (n % 2) (mod-lt n (lit< tt))
 
-odd-bit : (n : ℕ) → bitOf (isOdd n) ≡ n % 2
-unfolding isOdd isEven
-odd-bit n = odd-below (n % 2) (mod-lt n (lit< tt))
+not-number : (b : Bool) → bitOf (not b) ≡ 1 - bitOf b
+not-number true = refl
+not-number false = refl
+
+odd-number : (n : ℕ) → bitOf (isOdd n) ≡ n % 2
+unfolding isOdd
+odd-number n = rw (not-number (isEven n), even-number n) (omega arith)
 
 pub written-number : (f c : ℕ) → f < 256 → c < 65536
     → writeWiegand26 f c ≡ ones ((f * 65536 + c) / 4096) % 2 * 33554432 + (f * 65536 + c) * 2 + (1 - ones ((f * 65536 + c) % 4096) % 2)
@@ -76,7 +75,7 @@ written-number f c a b =
       drop-bits 12 12 n,
       ones-bits 12 (n / 4096),
       ones-bits 12 n,
-      odd-bit (ones (n / 4096 % 4096)),
-      even-bit (ones (n % 4096)),
+      odd-number (ones (n / 4096 % 4096)),
+      even-number (ones (n % 4096)),
       u,
     ) (omega arith)

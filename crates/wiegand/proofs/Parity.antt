@@ -125,27 +125,31 @@ unfolding numberOf
 number-other m xs ys true h = rw (h, number-append xs (true ∷ ys), number-append xs (false ∷ ys)) (omega arith)
 number-other m xs ys false h = rw (h, number-append xs (true ∷ ys), number-append xs (false ∷ ys)) (omega arith)
 
--- Of a number of a + suc i bits, bit i stands behind the first a; changed, it is the other one, and all others are as they were.
-changed-number : (a i n : ℕ) → n < 2 ^ (a + suc i) → changed i n ≡ numberOf (bits a (n / 2 ^ suc i) ++ not (bit n i) ∷ bits i n)
-unfolding changed bits
+-- The bits of a number of a + suc i bits, with b for bit i.
+abbrev with-bit : ℕ → ℕ → ℕ → Bool → List Bool
+with-bit a i n b = bits a (n / 2 ^ suc i) ++ b ∷ bits i n
+
+length-with : (a i n : ℕ) (b : Bool) → length (with-bit a i n b) ≡ a + suc i
+length-with a i n b = rw (length-append (bits a (n / 2 ^ suc i)) (b ∷ bits i n), length-bits a (n / 2 ^ suc i), length-bits i n)
+
+bits-with : (a i n : ℕ) → bits (a + suc i) n ≡ with-bit a i n (bit n i)
+unfolding bits
+bits-with a i n = bits-join a (suc i) n
+
+changed-number : (a i n : ℕ) → n < 2 ^ (a + suc i) → changed i n ≡ numberOf (with-bit a i n (not (bit n i)))
+unfolding changed
 changed-number a i n h =
-    let xs = bits a (n / 2 ^ suc i) in
-    let e : n ≡ numberOf (xs ++ bit n i ∷ bits i n) =
-    sym (mod-eq-of-lt h) ∙ sym (number-bits (a + suc i) n) ∙ ap numberOf (bits-join a (suc i) n) in
-    rw (length-bits i n) at (number-other n xs (bits i n) (bit n i) e)
+    let e : n ≡ numberOf (with-bit a i n (bit n i)) = sym (mod-eq-of-lt h) ∙ sym (number-bits (a + suc i) n) ∙ ap numberOf (bits-with a i n) in
+    rw (length-bits i n) at (number-other n (bits a (n / 2 ^ suc i)) (bits i n) (bit n i) e)
 
-length-other : (a i n : ℕ) (b : Bool) → length (bits a (n / 2 ^ suc i) ++ b ∷ bits i n) ≡ a + suc i
-length-other a i n b = rw (length-append (bits a (n / 2 ^ suc i)) (b ∷ bits i n), length-bits a (n / 2 ^ suc i), length-bits i n)
-
-pub changed-lt : (a i n : ℕ) → n < 2 ^ (a + suc i) → changed i n < 2 ^ (a + suc i)
-changed-lt a i n h =
-    let ws = bits a (n / 2 ^ suc i) ++ not (bit n i) ∷ bits i n in
-    rw (changed-number a i n h, ← length-other a i n (not (bit n i))) (number-lt ws)
-
-pub changed-bits : (a i n : ℕ) → n < 2 ^ (a + suc i) → bits (a + suc i) (changed i n) ≡ bits a (n / 2 ^ suc i) ++ not (bit n i) ∷ bits i n
-changed-bits a i n h =
-    let ws = bits a (n / 2 ^ suc i) ++ not (bit n i) ∷ bits i n in
-    rw (changed-number a i n h, ← length-other a i n (not (bit n i))) (bits-number ws)
+-- A changed bit is the other one, and all others are as they were.
+changed-with : (a i n : ℕ) → a + suc i ≡ 26 → n < 67108864
+    → (changed i n < 67108864) × (bits 26 (changed i n) ≡ with-bit a i n (not (bit n i))) × (bits 26 n ≡ with-bit a i n (bit n i))
+changed-with a i n e l =
+    let ws = with-bit a i n (not (bit n i)) in
+    let c : changed i n ≡ numberOf ws = changed-number a i n (rw e l) in
+    let k : length ws ≡ 26 = length-with a i n (not (bit n i)) ∙ e in
+    (rw c (rw k at (number-lt ws)), rw c (rw k at (bits-number ws)), rw e at (bits-with a i n))
 
 -- ── one of 26 bits
 
@@ -154,35 +158,19 @@ pub last-changed : (i n : ℕ) → i < 13 → n < 67108864
     → (changed i n < 67108864)
     × (firstParity (bits 26 (changed i n)) ≡ firstParity (bits 26 n))
     × (lastParity (bits 26 (changed i n)) ≡ not (lastParity (bits 26 n)))
-unfolding bits
 last-changed i n h l =
-    let a = 25 - i in
-    let xs = bits a (n / 2 ^ suc i) in
-    let e : a + suc i ≡ 26 = omega arith in
-    let l′ : n < 2 ^ (a + suc i) = rw e l in
-    let k : 13 ≤ length xs = rw (length-bits a (n / 2 ^ suc i)) (omega arith) in
-    let c : bits 26 (changed i n) ≡ xs ++ not (bit n i) ∷ bits i n = rw e at (changed-bits a i n l′) in
-    let j : bits 26 n ≡ xs ++ bit n i ∷ bits i n = rw e at (bits-join a (suc i) n) in (
-      rw e at (changed-lt a i n l′),
-      ap firstParity c ∙ first-kept xs (bits i n) (bit n i) k ∙ sym (ap firstParity j),
-      ap lastParity c ∙ last-other xs (bits i n) (bit n i) k ∙ sym (ap (λ bs. not (lastParity bs)) j),
-    )
+    let xs = bits (25 - i) (n / 2 ^ suc i) in
+    let t = changed-with (25 - i) i n (omega arith) l in
+    let k : 13 ≤ length xs = rw (length-bits (25 - i) (n / 2 ^ suc i)) (omega arith) in
+    rw (t .1, t .2) (t .0, first-kept xs (bits i n) (bit n i) k, last-other xs (bits i n) (bit n i) k)
 
 -- Among the first 13 the other way round.
 pub first-changed : (i n : ℕ) → 13 ≤ i → i < 26 → n < 67108864
     → (changed i n < 67108864)
     × (firstParity (bits 26 (changed i n)) ≡ not (firstParity (bits 26 n)))
     × (lastParity (bits 26 (changed i n)) ≡ lastParity (bits 26 n))
-unfolding bits
 first-changed i n g h l =
-    let a = 25 - i in
-    let xs = bits a (n / 2 ^ suc i) in
-    let e : a + suc i ≡ 26 = omega arith in
-    let l′ : n < 2 ^ (a + suc i) = rw e l in
-    let k : length xs + suc (i - 13) ≡ 13 = rw (length-bits a (n / 2 ^ suc i)) (omega arith) in
-    let c : bits 26 (changed i n) ≡ xs ++ not (bit n i) ∷ bits i n = rw e at (changed-bits a i n l′) in
-    let j : bits 26 n ≡ xs ++ bit n i ∷ bits i n = rw e at (bits-join a (suc i) n) in (
-      rw e at (changed-lt a i n l′),
-      ap firstParity c ∙ first-other xs (bits i n) (bit n i) (i - 13) k ∙ sym (ap (λ bs. not (firstParity bs)) j),
-      ap lastParity c ∙ last-kept xs (bits i n) (bit n i) (i - 13) k ∙ sym (ap lastParity j),
-    )
+    let xs = bits (25 - i) (n / 2 ^ suc i) in
+    let t = changed-with (25 - i) i n (omega arith) l in
+    let k : length xs + suc (i - 13) ≡ 13 = rw (length-bits (25 - i) (n / 2 ^ suc i)) (omega arith) in
+    rw (t .1, t .2) (t .0, first-other xs (bits i n) (bit n i) (i - 13) k, last-kept xs (bits i n) (bit n i) (i - 13) k)

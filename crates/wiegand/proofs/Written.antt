@@ -1,6 +1,6 @@
 -- What the way back writes is good and is read back, and nothing else is good.
 use mathlib.Core.Path.{_≡_, refl, sym, ap, ap₂, _∙_}
-use mathlib.Core.List.{List, [], _∷_, _++_, append-assoc}
+use mathlib.Core.List.{List, [], _∷_, _++_}
 use mathlib.Core.Bool.{Bool, true, false, not, _&&_, _||_}
 use Prim.Native.Nat.{ℕ, suc, _+_, _/_, _%_, _≤_, _<_}
 use native.Mathlib.Nat.{add-zero, mod-eq-of-lt, mod-lt}
@@ -8,7 +8,7 @@ use native.Mathlib.Omega.{arith}
 use lib.Dec.{eqb, leb, lit<, lit≤}
 use lib.ListN.{length, take, drop, length-append}
 use lib.Pow.{shr-shr}
-use lib.Seq.{take-append-le, drop-append-le, take-at, drop-at}
+use lib.Seq.{take-append-le, drop-append-le}
 use borrow.Author.Tests.{lt-leb, leb-false, eqb-true, not-false}
 use Rattle.octets.specs.Octets.{digits}
 use Rattle.octets.proofs.Laws.{field-digits}
@@ -18,7 +18,7 @@ use Rattle.wiegand.specs.declared.Reading.{Reading}
 use Rattle.wiegand.specs.Wiegand.{bits, numberOf, numberOfOnes, isEven, isOdd, firstParity, lastParity, facilityOf, cardOf, factor, factorOf, readingError, nothingMade, readWiegand26, between, firstBit, lastBit, written, writeWiegand26, format-wiegand26}
 use Rattle.wiegand.specs.Theorems.{facilityIn, cardIn, ReadBack, OnlyWritten, NoneShared}
 use Rattle.wiegand.proofs.Bits.{length-bits, bits-join, bits-mod, number-bits, number-lt, bits-number, ones-append}
-use Rattle.wiegand.proofs.Fields.{facility-number, card-number}
+use Rattle.wiegand.proofs.Fields.{facility-number, card-number, written-number}
 use Rattle.wiegand.proofs.Parity.{even-with, even-only, odd-with, odd-only}
 
 -- ── what is read
@@ -58,7 +58,7 @@ pub written-lt : (f c : ℕ) → writeWiegand26 f c < 67108864
 unfolding writeWiegand26
 written-lt f c = rw (length-written f c) at (number-lt (written f c))
 
-pub written-bits : (f c : ℕ) → bits 26 (writeWiegand26 f c) ≡ written f c
+written-bits : (f c : ℕ) → bits 26 (writeWiegand26 f c) ≡ written f c
 unfolding writeWiegand26
 written-bits f c = rw (length-written f c) at (bits-number (written f c))
 
@@ -75,37 +75,20 @@ written-last f c =
     rw (written-bits f c, last-around (firstBit f c) (lastBit f c) (between f c) (length-between f c))
     (odd-with (numberOfOnes (drop 12 (between f c))))
 
--- Facility and card stand between the parity bits.
-facility-around : (p q : Bool) (f c : ℕ) → f < 256 → facilityOf (around p (between f c) q) ≡ f
-unfolding facilityOf between
-facility-around p q f c h =
-    rw (
-      append-assoc (bits 8 f) (bits 16 c) (q ∷ []),
-      take-at (bits 8 f) (bits 16 c ++ q ∷ []) 8 (length-bits 8 f),
-      number-bits 8 f,
-    ) (mod-eq-of-lt h)
+-- ── the factor of good bits
 
-card-around : (p q : Bool) (f c : ℕ) → c < 65536 → cardOf (around p (between f c) q) ≡ c
-unfolding cardOf between
-card-around p q f c h =
-    rw (
-      append-assoc (bits 8 f) (bits 16 c) (q ∷ []),
-      drop-at (bits 8 f) (bits 16 c ++ q ∷ []) 8 (length-bits 8 f),
-      take-at (bits 16 c) (q ∷ []) 16 (length-bits 16 c),
-      number-bits 16 c,
-    ) (mod-eq-of-lt h)
+read-good : (n : ℕ) → n < 67108864 → firstParity (bits 26 n) && lastParity (bits 26 n) ≡ true
+    → readWiegand26 n 26 ≡ factor (n / 131072 % 256) (n / 2 % 65536)
+unfolding factorOf
+read-good n h g = rw (read-bits n h, g, facility-number n, card-number n)
 
 read-written : (f c : ℕ) → f < 256 → c < 65536 → readWiegand26 (writeWiegand26 f c) 26 ≡ factor f c
-unfolding factorOf written
 read-written f c a b =
-    rw (
-      read-bits (writeWiegand26 f c) (written-lt f c),
-      written-first f c,
-      written-last f c,
-      written-bits f c,
-      facility-around (firstBit f c) (lastBit f c) f c a,
-      card-around (firstBit f c) (lastBit f c) f c b,
-    )
+    let n = writeWiegand26 f c in
+    let w = written-number f c a b in
+    let e : n / 131072 % 256 ≡ f = rw w (omega arith) in
+    let d : n / 2 % 65536 ≡ c = rw w (omega arith) in
+    read-good n (written-lt f c) (rw (written-first f c, written-last f c)) ∙ ap₂ factor e d
 
 -- ── facility and card in the value
 
@@ -163,7 +146,7 @@ between-middle n = rw (bits-mod 0 8 (n / 131072), bits-mod 0 16 (n / 2), bits-jo
 bits-around : (n : ℕ) → bits 26 n ≡ around (bit n 25) (between (n / 131072 % 256) (n / 2 % 65536)) (bit n 0)
 bits-around n = rw (first-bit 25 n, bits-join 24 1 n, last-bit n, between-middle n)
 
-pub good-written : (n : ℕ) → n < 67108864 → firstParity (bits 26 n) ≡ true → lastParity (bits 26 n) ≡ true
+good-written : (n : ℕ) → n < 67108864 → firstParity (bits 26 n) ≡ true → lastParity (bits 26 n) ≡ true
     → n ≡ writeWiegand26 (n / 131072 % 256) (n / 2 % 65536)
 unfolding writeWiegand26 written firstBit lastBit
 good-written n h a b =
@@ -177,12 +160,6 @@ good-written n h a b =
     odd-only (bit n 0) (numberOfOnes (drop 12 m))
     (sym (last-around (bit n 25) (bit n 0) m (length-between f c)) ∙ sym (ap lastParity (bits-around n)) ∙ b) in
     sym (mod-eq-of-lt h) ∙ sym (number-bits 26 n) ∙ ap numberOf (bits-around n ∙ ap₂ (λ x y. around x m y) p q)
-
--- The factor that such bits become.
-read-good : (n : ℕ) → n < 67108864 → firstParity (bits 26 n) && lastParity (bits 26 n) ≡ true
-    → readWiegand26 n 26 ≡ factor (n / 131072 % 256) (n / 2 % 65536)
-unfolding factorOf
-read-good n h g = rw (read-bits n h, g, facility-number n, card-number n)
 
 only-26 : (n : ℕ) → readWiegand26 n 26 .format ≡ format-wiegand26 → n < 67108864
     → (facilityIn (readWiegand26 n 26) < 256) × (cardIn (readWiegand26 n 26) < 65536)

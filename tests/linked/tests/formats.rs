@@ -347,8 +347,7 @@ fn an_answer_has_no_spare_byte() {
 
 /// The words of the document's line that says so, with their marks of thousands taken out.
 fn words_of_line(said: &str) -> Vec<String> {
-    let document = std::fs::read_to_string(library::repository("docs/FORMATS.md"));
-    let document = document.expect("the document is there");
+    let document = document::text();
     let mut lines = document.lines().filter(|line| line.contains(said));
     let words = lines.next().expect("the line is there").split_whitespace();
     assert_eq!(lines.next(), None, "it stands there once");

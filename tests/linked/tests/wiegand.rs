@@ -1,6 +1,7 @@
-//! The calls of 26-bit readers: on every facility and card and on every number, beside a few lines
-//! of plain Rust; on any numbers and counts, beside the second implementation.
+//! The calls of 26-bit readers: on every facility and card and on every number, beside plain Rust;
+//! on any numbers and counts, beside the second implementation.
 
+use plain::wiegand as plain;
 use reference::generate::Random;
 use reference::{settings, wiegand};
 use std::collections::BTreeMap;
@@ -34,33 +35,25 @@ fn pair(bits: u32) -> (u8, u16) {
     ((bits >> 16) as u8, bits as u16)
 }
 
-fn plain_read(number: u32) -> Factor {
-    let [first, last] = [number >> 13, number & 0x1FFF].map(u32::count_ones);
-    if first % 2 != 0 || last % 2 != 1 {
-        return READ_ERROR;
-    }
-    let (facility, card) = pair(number >> 1);
-    good(facility, card)
-}
-
-fn plain_write(facility: u8, card: u16) -> u32 {
-    let between = u32::from(facility) << 16 | u32::from(card);
-    let [first, last] = [between >> 12, between & 0xFFF].map(u32::count_ones);
-    let (first_parity, last_parity) = (first % 2, (last + 1) % 2);
-    first_parity << 25 | between << 1 | last_parity
+/// What an implementation makes of bits, as the package says it.
+fn outcome(made: Result<wiegand::Factor, u8>) -> Result<Factor, u32> {
+    let as_in_package = |wiegand::Factor { format, value }| Factor { format, value };
+    made.map(as_in_package).map_err(u32::from)
 }
 
 /// What the library makes of 26 bits, and plain Rust too.
 fn read(number: u32) -> Factor {
     let factor = read_wiegand26(number.into(), 26).expect("26 bits are not turned away");
-    assert_eq!(factor, plain_read(number), "{number:026b}");
+    let expected = outcome(plain::read_wiegand26(number.into(), 26));
+    assert_eq!(Ok(factor), expected, "{number:026b}");
     factor
 }
 
 /// The bits that the library writes, and plain Rust too.
 fn write(facility: u8, card: u16) -> u32 {
     let number = write_wiegand26(facility, card);
-    assert_eq!(number, plain_write(facility, card), "{facility} {card}");
+    let expected = plain::write_wiegand26(facility, card);
+    assert_eq!(number, expected, "{facility} {card}");
     number
 }
 
@@ -126,11 +119,7 @@ fn two_changed_bits_in_one_half_are_not_found() {
 /// What the library makes of any bits, and the second implementation too.
 fn agreed(number: u64, count: u32) -> Result<Factor, u32> {
     let made = read_wiegand26(number, count).map_err(TurnedBack::number);
-    let expected = wiegand::read_wiegand26(number, count).map_err(u32::from);
-    let expected = expected.map(|factor| Factor {
-        format: factor.format,
-        value: factor.value,
-    });
+    let expected = outcome(wiegand::read_wiegand26(number, count));
     assert_eq!(made, expected, "{number} of {count} bits");
     made
 }

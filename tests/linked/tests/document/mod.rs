@@ -55,13 +55,16 @@ fn cells(line: &str) -> Option<Vec<String>> {
     Some(cells.split('|').map(plain).collect())
 }
 
+pub fn text() -> String {
+    let document = library::repository("docs/FORMATS.md");
+    fs::read_to_string(document).expect("the document is there")
+}
+
 /// The rows of all tables that have a column of this title.
 pub fn rows(title: &str) -> Vec<Row> {
-    let document = library::repository("docs/FORMATS.md");
-    let document = fs::read_to_string(document).expect("the document is there");
     let mut titles: Option<Vec<String>> = None;
     let mut rows = Vec::new();
-    for line in document.lines() {
+    for line in text().lines() {
         match (cells(line), &titles) {
             (Some(cells), Some(titles)) => {
                 assert_eq!(cells.len(), titles.len(), "{line}");
