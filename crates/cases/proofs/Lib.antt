@@ -15,6 +15,7 @@ pub mod Factors
 pub mod Valid
 pub mod Modes
 pub mod Rules
+pub mod Midnight
 pub mod Limits
 pub mod Grants
 pub mod Failures

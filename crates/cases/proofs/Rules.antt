@@ -86,7 +86,7 @@ unfolding bytes ruled under outside
 locations = record { fits = refl; another-point = refl; last-zone = refl; elsewhere = refl; without-zone = refl }
 
 -- An enabled rule at point 2 on these days, from a minute to another.
-abbrev on : ℕ → ℕ → ℕ → List Field
+abbrev pub on : ℕ → ℕ → ℕ → List Field
 on ds from to = flags 1 ∷ weekdays ds ∷ from-minute from ∷ to-minute to ∷ []
 
 pub record Times : Type 0 where

@@ -2,9 +2,11 @@
 -- largest is accepted, and each field one above it, each spare byte, each spare flag and a kind other than 1 to 5 is refused.
 use Prim.Native.Nat.{ℕ}
 use mathlib.Core.Path.{_≡_, refl}
-use mathlib.Core.List.{List, [], _∷_}
+use mathlib.Core.List.{List, [], _∷_, _++_, map, flatten}
+use lib.ListN.{replicate}
 use Rattle.octets.specs.Octets.{put}
 use Rattle.model.proofs.Open.{definitions}
+use Rattle.cases.proofs.Change.{Field}
 use Rattle.cases.proofs.Records.{record-of, changed-numbers, tables}
 
 -- "Kind 1, zone. Flag 0 counting. 2: passback 0 off, 1 hard, 2 soft. 8 upper limit, 12 lower limit, 16 passback timeout in minutes, 4 bytes
@@ -50,17 +52,31 @@ unfolding definitions tables put largest-point two-zones
 point-zones = refl
 
 -- "Kind 3, rule. Flags: 0 enabled, 1 negative, 2 always, 3 everywhere. 2: location kind 1 zone or 2 point. 3: days, bit 0 Monday to bit 6
--- Sunday. 8 location (4). 12 from, 14 to, minutes (2 each), from ≤ to ≤ 1,440. Everywhere: 2 and 8 are zero."
+-- Sunday. 8 location (4). 12 from, 14 to, minutes (2 each) .. Everywhere: 2 and 8 are zero." Document 02, job 3: "both stay at most 1,440.
+-- Refusal 2 no longer includes from > to."
 unfoldable pub largest-rule : List ℕ
 largest-rule = record-of ((0, 1, 3) ∷ (1, 1, 15) ∷ (3, 1, 127) ∷ (4, 4, 4194302) ∷ (12, 2, 1440) ∷ (14, 2, 1440) ∷ [])
 
 pub rule-fields :
     changed-numbers [] largest-rule
-    ([] ∷ ((0, 1, 0) ∷ []) ∷ ((1, 1, 24) ∷ []) ∷ ((3, 1, 128) ∷ []) ∷ ((4, 4, 4194303) ∷ []) ∷ ((12, 2, 1439) ∷ []) ∷ ((14, 2, 1439) ∷ [])
-    ∷ ((14, 2, 1441) ∷ []) ∷ ((12, 2, 0) ∷ (14, 2, 0) ∷ []) ∷ ((2, 1, 1) ∷ []) ∷ ((8, 4, 8) ∷ []) ∷ ((16, 1, 1) ∷ []) ∷ ((31, 1, 1) ∷ []) ∷ [])
-    ≡ 0 ∷ 2 ∷ 2 ∷ 2 ∷ 2 ∷ 0 ∷ 2 ∷ 2 ∷ 0 ∷ 2 ∷ 2 ∷ 2 ∷ 2 ∷ []
+    ([] ∷ ((0, 1, 0) ∷ []) ∷ ((1, 1, 24) ∷ []) ∷ ((3, 1, 128) ∷ []) ∷ ((4, 4, 4194303) ∷ []) ∷ ((2, 1, 1) ∷ []) ∷ ((8, 4, 8) ∷ []) ∷ ((16, 1, 1) ∷ [])
+    ∷ ((31, 1, 1) ∷ []) ∷ [])
+    ≡ 0 ∷ 2 ∷ 2 ∷ 2 ∷ 2 ∷ 2 ∷ 2 ∷ 2 ∷ 2 ∷ []
 unfolding definitions tables put largest-rule
 rule-fields = refl
+
+-- From before to, equal, after it; 1,441 in either. The flags: all; disabled; not always; then neither enabled, always nor everywhere.
+abbrev minutes : List Field → List (List Field)
+minutes fs =
+    map (λ (m : ℕ × ℕ). fs ++ ((12, 2, m .0) ∷ (14, 2, m .1) ∷ []))
+    ((0, 1440) ∷ (0, 0) ∷ (1440, 1440) ∷ (1440, 0) ∷ (1320, 360) ∷ (1441, 1440) ∷ (1440, 1441) ∷ (1441, 0) ∷ (0, 1441) ∷ (1441, 1441) ∷ [])
+
+pub rule-minutes :
+    changed-numbers two-zones largest-rule
+    (minutes [] ++ minutes ((1, 1, 14) ∷ []) ++ minutes ((1, 1, 9) ∷ []) ++ minutes ((1, 1, 2) ∷ (2, 1, 1) ∷ (8, 4, 8) ∷ []))
+    ≡ flatten (replicate 4 (0 ∷ 0 ∷ 0 ∷ 0 ∷ 0 ∷ 2 ∷ 2 ∷ 2 ∷ 2 ∷ 2 ∷ []))
+unfolding definitions tables put largest-rule two-zones
+rule-minutes = refl
 
 -- Not everywhere: zone 8 and point 4,194,302 are there. Last, a spare flag.
 pub rule-locations :

@@ -164,19 +164,37 @@ locationFits point to s =
     everywhere s || eqb (locationKind s) n.access-point && eqb (location s) (point .0)
     || eqb (locationKind s) n.access-zone && eqb (location s) (to .0) && not (eqb (to .0) NONE)
 
--- "Time fits if always, or the weekday is set and from ≤ minute of day < to."
+-- "Time fits if always, or the weekday is set and from ≤ minute of day < to." Document 02, job 3: "From > to shall now mean a window that runs
+-- past midnight and belongs to the day on which it began".
 unfoldable pub weekday : ℕ → ℕ
 weekday time = time / n.seconds-of-day % n.days-of-week
+
+-- "the weekday before": "a window that starts on Sunday ends on Monday".
+unfoldable pub weekdayBefore : ℕ → ℕ
+weekdayBefore day = if eqb day n.monday then n.sunday else day - 1
 
 -- "minute of day".
 unfoldable pub minuteOfDay : ℕ → ℕ
 minuteOfDay time = time / n.seconds-of-minute % n.minutes-of-day
 
--- "always, or the weekday is set and from ≤ minute of day < to".
+-- "From > to".
+unfoldable pub crossesMidnight : List ℕ → Bool
+crossesMidnight s = ltb (toMinute s) (fromMinute s)
+
+-- "the weekday is set and from ≤ minute of day < to"; "From = to remains empty".
+unfoldable pub fitsWithinDay : ℕ → List ℕ → Bool
+fitsWithinDay time s =
+    bit (weekdays s) (weekday time) && leb (fromMinute s) (minuteOfDay time) && ltb (minuteOfDay time) (toMinute s)
+
+-- "it fits if the weekday is set and minute ≥ from, or the weekday before is set and minute < to".
+unfoldable pub fitsPastMidnight : ℕ → List ℕ → Bool
+fitsPastMidnight time s =
+    bit (weekdays s) (weekday time) && leb (fromMinute s) (minuteOfDay time)
+    || bit (weekdays s) (weekdayBefore (weekday time)) && ltb (minuteOfDay time) (toMinute s)
+
+-- "Time fits if always", or in its window.
 unfoldable pub timeFits : ℕ → List ℕ → Bool
-timeFits time s =
-    always s
-    || bit (weekdays s) (weekday time) && leb (fromMinute s) (minuteOfDay time) && ltb (minuteOfDay time) (toMinute s)
+timeFits time s = always s || (if crossesMidnight s then fitsPastMidnight time s else fitsWithinDay time s)
 
 -- A fitting negative rule; a fitting positive rule; a positive rule that fits in location.
 unfoldable pub verdict : RightsId → RightsId → PointId → ZoneId → ℕ → List (List ℕ) → Verdict

@@ -37,6 +37,12 @@ seconds-of-day = 86400
 abbrev pub days-of-week : ℕ
 days-of-week = 7
 
+abbrev pub monday : ℕ
+monday = 0
+
+abbrev pub sunday : ℕ
+sunday = 6
+
 -- ── bytes: "site records, 32 bytes each", "at most 2,000"; "entries, 24 bytes; answers, 16 bytes"; "above 65,520"
 
 abbrev pub record-size : ℕ

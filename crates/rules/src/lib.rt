@@ -5,6 +5,8 @@ use model::PointId;
 use model::RightsId;
 use model::Verdict;
 use model::ZoneId;
+use model::layout::RULE_DAY_MONDAY;
+use model::layout::RULE_DAY_SUNDAY;
 use model::numbers::ACCESS_POINT;
 use model::numbers::ACCESS_RULE;
 use model::numbers::ACCESS_ZONE;
@@ -31,7 +33,7 @@ ghost use mathlib.Core.Bool.{true};
 ghost use Prim.Native.Nat.{_≤_, _<_};
 ghost use lib.ListN.{length};
 ghost use Rattle.model.specs.Site.{records};
-ghost use Rattle.model.specs.Checks.{enabledRule, locationFits, weekday, minuteOfDay, timeFits};
+ghost use Rattle.model.specs.Checks.{enabledRule, locationFits, weekday, weekdayBefore, minuteOfDay, fitsWithinDay, fitsPastMidnight, timeFits};
 ghost use Rattle.index.specs.Index.{rule-classes, inClass, Indexed};
 ghost use Rattle.rules.specs.Walk.{nothingFound, both, findings, Gains, ruleClasses, Classes, classCount};
 
@@ -64,6 +66,17 @@ pub fn weekday_of(time: u32) -> u8
     ensures { λ r. ⌜ r < 7 ⌝ }
 {
     (time / SECONDS_OF_DAY % DAYS_OF_WEEK) as u8
+}
+
+// The day of the week before a day of the week: Sunday before Monday.
+pub fn weekday_before(day: u8) -> u8
+    ensures { λ r. ⌜ r ≡ weekdayBefore day ⌝ }
+    ensures { λ r. ⌜ (day < 7 → r < 7) ⌝ }
+{
+    if day == RULE_DAY_MONDAY {
+        return RULE_DAY_SUNDAY;
+    }
+    day - 1
 }
 
 pub fn minute_of_day(time: u32) -> u16
@@ -99,14 +112,40 @@ pub fn location_fits(part: &[u8], point: PointId, to: ZoneId) -> bool
         | (kind == ACCESS_ZONE) & (location == to.0) & (to.0 != NONE)
 }
 
+// Whether a time is in the window of a rule that ends on the day on which it began.
+fn fits_within_day(part: &[u8], time: u32) -> bool
+    requires { ⌜ length (now part) ≡ 32 ⌝ }
+    ensures { λ r. ⌜ r ≡ fitsWithinDay time (now (part .entry)) ⌝ }
+{
+    let today = bit_of(weekdays_of(part), weekday_of(time));
+    let minute = minute_of_day(time);
+    today & (from_minute_of(part) <= minute) & (minute < to_minute_of(part))
+}
+
+// Whether a time is in the window of a rule that ends on the day after: in its first half, or in the second half of the day before's.
+fn fits_past_midnight(part: &[u8], time: u32) -> bool
+    requires { ⌜ length (now part) ≡ 32 ⌝ }
+    ensures { λ r. ⌜ r ≡ fitsPastMidnight time (now (part .entry)) ⌝ }
+{
+    let days = weekdays_of(part);
+    let day = weekday_of(time);
+    let minute = minute_of_day(time);
+    bit_of(days, day) & (from_minute_of(part) <= minute)
+        | bit_of(days, weekday_before(day)) & (minute < to_minute_of(part))
+}
+
 // Whether a rule holds at a time.
 pub fn time_fits(part: &[u8], time: u32) -> bool
     requires { ⌜ length (now part) ≡ 32 ⌝ }
     ensures { λ r. ⌜ r ≡ timeFits time (now (part .entry)) ⌝ }
 {
-    let today = bit_of(weekdays_of(part), weekday_of(time));
-    let minute = minute_of_day(time);
-    is_always(part) | today & (from_minute_of(part) <= minute) & (minute < to_minute_of(part))
+    if is_always(part) {
+        return true;
+    }
+    if to_minute_of(part) < from_minute_of(part) {
+        return fits_past_midnight(part, time);
+    }
+    fits_within_day(part, time)
 }
 
 fn nothing() -> Verdict

@@ -64,11 +64,11 @@ unfolding ruleInRange
 point-location s h e z =
     let place = within access-zone access-point (locationKind s) && real (location s) in
     let flags = ltb (field 1 1 s) 16 && ltb (weekdays s) 128 in
-    let upto = flags && place && leb (fromMinute s) (toMinute s) in
+    let upto = flags && place && leb (fromMinute s) minutes-of-day in
     let inside : upto && leb (toMinute s) minutes-of-day && clear 16 16 s ≡ true = rw e at h in
     let l = and-left (upto && leb (toMinute s) minutes-of-day) (clear 16 16 s) inside in
     let k = and-left upto (leb (toMinute s) minutes-of-day) l in
-    let p = and-right flags place (and-left (flags && place) (leb (fromMinute s) (toMinute s)) k) in
+    let p = and-right flags place (and-left (flags && place) (leb (fromMinute s) minutes-of-day) k) in
     let w = and-left (within access-zone access-point (locationKind s)) (real (location s)) p in
     let low = leb-true access-zone (locationKind s) (and-left (leb access-zone (locationKind s)) (leb (locationKind s) access-point) w) in
     let high = leb-true (locationKind s) access-point (and-right (leb access-zone (locationKind s)) (leb (locationKind s) access-point) w) in

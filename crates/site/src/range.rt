@@ -110,12 +110,11 @@ fn rule_in_range(part: &[u8]) -> bool
     requires { ⌜ length (now part) ≡ 32 ⌝ }
     ensures { λ r. ⌜ r ≡ ruleInRange (now (part .entry)) ⌝ }
 {
-    let to = site::to_minute_of(part);
     (site::flags_of(part) < layout::RULE_FLAGS_END)
         & (site::weekdays_of(part) < layout::RULE_DAYS_END)
         & location_in_range(part)
-        & (site::from_minute_of(part) <= to)
-        & ((to as u32) <= MINUTES_OF_DAY)
+        & ((site::from_minute_of(part) as u32) <= MINUTES_OF_DAY)
+        & ((site::to_minute_of(part) as u32) <= MINUTES_OF_DAY)
         & is_clear(part, layout::RULE_SPARE, layout::RULE_SPARE_SIZE)
 }
 
