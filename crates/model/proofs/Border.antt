@@ -23,7 +23,7 @@ use Rattle.model.specs.declared.Verdict.{Verdict}
 use Rattle.model.specs.declared.Outcome.{Outcome}
 use Rattle.model.specs.declared.Operation.{Operation}
 use Rattle.model.specs.declared.Operation.the-variants.{Factor, SetCount, AdjustCount, SetDisable, SetService, Unknown}
-use Rattle.model.proofs.Laws.{if-holds, and-left, and-right, only, only-store, only-store-out, all-found, found}
+use Rattle.model.proofs.Laws.{if-holds, and-left, and-right, only, only-apply, only-store-out, all-found, found}
 
 -- Two Bools that are compared equal are equal.
 pub beq-is : (m b : Bool) → Bool·beq m b ≡ true → m ≡ b
@@ -146,7 +146,6 @@ module _ (P : Part) where
   unfolding onSide
   none-side k side = refl
 
-  -- Whichever of two references is taken, it is on the side that both are on.
   -- The part holds the records of a kind and instance where it has that object.
   pub holds-at : (k i : ℕ) (s : List ℕ) → isAt k i s ≡ true → holds P s ≡ member P k i
   unfolding holds
@@ -154,21 +153,9 @@ module _ (P : Part) where
 
   -- ── writes
 
-  -- The part's records after a write are its records with the same write.
-  part-write : (on : Bool) (k i : ℕ) (b : List ℕ) (ps : Panel) →
-      only (holds P) (write on k i b ps) ≡ write on k i b (only (holds P) ps)
-  unfolding write
-  part-write on k i b ps = go (on && not (eqb i NONE))
-    where
-      go : (c : Bool) →
-          only (holds P) (if c then store k i b ps else ps) ≡ (if c then store k i b (only (holds P) ps) else only (holds P) ps)
-      go true = only-store (holds P) k i b (member P k i) (holds-at k i) ps
-      go false = refl
-
   -- The part's records after an outcome are its records with the same outcome.
   pub part-apply : (o : Outcome) (ps : Panel) → only (holds P) (apply o ps) ≡ apply o (only (holds P) ps)
-  unfolding apply
-  part-apply o ps = simp part-write
+  part-apply o ps = only-apply (holds P) (member P) holds-at o ps
 
   -- A write outside the part leaves the part's records as they are.
   write-out : (on : Bool) (k i : ℕ) (b : List ℕ) (ps : Panel) → onSide P k i false ≡ true →

@@ -3,18 +3,18 @@ use Prim.Native.Nat.{ℕ, zero, suc, _+_, _*_, _/_, _%_, _<_}
 use native.Mathlib.Omega.{arith}
 use mathlib.Core.Path.{_≡_, refl, sym, _∙_, ap}
 use mathlib.Core.List.{List, [], _∷_, map, map-map, flatten}
-use mathlib.Core.Bool.{Bool, true, _&&_}
+use mathlib.Core.Bool.{Bool, true, false, _&&_}
 use lib.Dec.{eqb}
 use lib.ListN.{length, take, drop, getD, length-append, length-map, length-drop}
 use lib.Seq.{take-at, drop-at, length-take-le}
 use borrow.Author.Tests.{eqb-true}
 use Rattle.octets.specs.Octets.{groups}
 use Rattle.octets.proofs.Groups.{length-groups, joined-back}
-use Rattle.model.specs.Words.{all}
+use Rattle.model.specs.Words.{if_then_else_, keep, all}
 use Rattle.model.specs.Site.{recordKind, records}
 use Rattle.model.specs.State.{Pair, Panel, paired, panel, sites, stateOf, freshPoint, freshCredential, freshRecordAs, freshRecord, fresh}
 use Rattle.model.specs.Step.{apply, entryOutcome, after}
-use Rattle.model.proofs.Laws.{and-left, and-right, all-write, sites-apply}
+use Rattle.model.proofs.Laws.{and-left, and-right, only, all-write, sites-apply}
 use Rattle.model.proofs.RoundTrip.{length-zone, length-point, length-credential}
 use Rattle.model.specs.declared.Entry.{Entry}
 use Rattle.model.specs.declared.Outcome.{Outcome}
@@ -155,6 +155,16 @@ freshPanel ss = map (λ (s : List ℕ). (s, freshRecord s)) ss
 pub sites-fresh : (ss : List (List ℕ)) → sites (freshPanel ss) ≡ ss
 sites-fresh [] = refl
 sites-fresh (s ∷ ss) = ap (λ rs. s ∷ rs) (sites-fresh ss)
+
+-- What a test keeps of it is the fresh panel of what the test keeps.
+pub only-fresh : (w : List ℕ → Bool) (ss : List (List ℕ)) → only w (freshPanel ss) ≡ freshPanel (keep w ss)
+only-fresh w [] = refl
+only-fresh w (s ∷ ss) = go (w s) (only-fresh w ss)
+  where
+    go : (c : Bool) → only w (freshPanel ss) ≡ freshPanel (keep w ss) →
+        (if c then (s, freshRecord s) ∷ only w (freshPanel ss) else only w (freshPanel ss)) ≡ freshPanel (if c then s ∷ keep w ss else keep w ss)
+    go true ih = ap (λ ps. (s, freshRecord s) ∷ ps) ih
+    go false ih = ih
 
 pub length-freshRecord : (s : List ℕ) → length (freshRecord s) ≡ 32
 unfolding freshRecord

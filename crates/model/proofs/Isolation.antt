@@ -19,7 +19,7 @@ use Rattle.model.specs.declared.PointState.{PointState}
 use Rattle.model.specs.declared.Outcome.{Outcome}
 use Rattle.model.proofs.Laws.{and-left, and-right, only, all-write}
 use Rattle.model.proofs.RoundTrip.{point-back, refusal-back}
-use Rattle.model.proofs.Flat.{freshPanel}
+use Rattle.model.proofs.Flat.{freshPanel, only-fresh}
 use Rattle.model.proofs.Runs.{workedAt, allEntries, ended-panel, worked-list}
 use Rattle.model.proofs.Border.{kind-at, none-side, holds-at, part-apply, Sided, apply-out, waitInside, pairInside, answeredInsideAs, answeredInside, sided}
 use Rattle.model.proofs.Isolated.{outcome-part}
@@ -133,17 +133,6 @@ module _ (P : Part) where
 
   -- ── a list of runs from fresh
 
-  -- The part's records of a fresh panel are the fresh panel of the part's records.
-  fresh-part : (ss : List (List ℕ)) → only (holds P) (freshPanel ss) ≡ freshPanel (keep (holds P) ss)
-  fresh-part [] = refl
-  fresh-part (s ∷ ss) = go (holds P s) (fresh-part ss)
-    where
-      go : (c : Bool) → only (holds P) (freshPanel ss) ≡ freshPanel (keep (holds P) ss) →
-          (if c then (s, freshRecord s) ∷ only (holds P) (freshPanel ss) else only (holds P) (freshPanel ss))
-          ≡ freshPanel (if c then s ∷ keep (holds P) ss else keep (holds P) ss)
-      go true ih = ap (λ ps. (s, freshRecord s) ∷ ps) ih
-      go false ih = ih
-
   -- The part's answers, and its records at the end, from the part's records and entries alone.
   alone-list : (h : History) → SelfContained P h →
       (partAnswers P h ≡ map answerBytes (answers (freshPanel (partRecords P h)) (map entryOf (partEntries P h))))
@@ -152,7 +141,7 @@ module _ (P : Part) where
   alone-list h c =
       let ss = records (h .site) in
       let a = alone (allEntries h) (freshPanel ss) (fresh-inside ss (c .site)) (rw (← worked-list h) (c .reads)) in
-      rw (worked-list h, ended-panel h, ← fresh-part ss) (a .same-answers, a .same-records)
+      rw (worked-list h, ended-panel h, ← only-fresh (holds P) ss) (a .same-answers, a .same-records)
 
 -- Two lists with the same records and entries of the part: both are the part's list alone.
 pub isolation : Isolation

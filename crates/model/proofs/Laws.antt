@@ -84,6 +84,20 @@ module _ (w : List ℕ → Bool) (k i : ℕ) (b : List ℕ) where
   only-store true agree ps = only-store-in agree ps
   only-store false agree ps = only-store-out agree ps ∙ sym (store-only-out agree ps)
 
+-- a test that the kind and the instance of a record decide: after an outcome, what is kept is what was kept with the same outcome
+module _ (w : List ℕ → Bool) (v : ℕ → ℕ → Bool) (agree : (k i : ℕ) (s : List ℕ) → isAt k i s ≡ true → w s ≡ v k i) where
+  only-write : (on : Bool) (k i : ℕ) (b : List ℕ) (ps : Panel) → only w (write on k i b ps) ≡ write on k i b (only w ps)
+  unfolding write
+  only-write on k i b ps = go (on && not (eqb i NONE))
+    where
+      go : (c : Bool) → only w (if c then store k i b ps else ps) ≡ (if c then store k i b (only w ps) else only w ps)
+      go true = only-store w k i b (v k i) (agree k i) ps
+      go false = refl
+
+  pub only-apply : (o : Outcome) (ps : Panel) → only w (apply o ps) ≡ apply o (only w ps)
+  unfolding apply
+  only-apply o ps = simp only-write
+
 -- what is found is found among what is kept, if it is kept
 pub find-only : (w q : List ℕ → Bool) (ps : Panel) → (q (findBy q ps .0) ≡ true → w (findBy q ps .0) ≡ true) →
     findBy q (only w ps) ≡ findBy q ps

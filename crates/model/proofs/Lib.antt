@@ -4,7 +4,9 @@ pub mod Parts
 pub mod Cases
 pub mod Applied
 pub mod Premises
+pub mod Bits
 pub mod Laws
+pub mod Agree
 pub mod RoundTrip
 pub mod Flat
 pub mod Runs
@@ -17,6 +19,7 @@ pub mod Isolation
 pub mod Well
 pub mod WellStep
 pub mod KeptWell
+pub mod Shifts
 pub mod Untouched
 pub mod Granted
 pub mod Instances

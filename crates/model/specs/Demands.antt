@@ -2,23 +2,25 @@
 -- count, the part and the well-formed state are about whole lists of runs from fresh; the others about every site, state and run.
 use Prim.Native.Nat.{ℕ, suc, _/_, _<_}
 use mathlib.Core.Path.{_≡_}
-use mathlib.Core.List.{List, []}
-use mathlib.Core.Bool.{Bool, true, false, not}
+use mathlib.Core.List.{List, [], map}
+use mathlib.Core.Bool.{Bool, true, false, not, _&&_, _||_}
 use lib.Dec.{eqb}
 use lib.IntN.{pos}
 use lib.ListN.{length, getD}
 use Rattle.model.specs.Words.{all}
 use Rattle.model.specs.Numbers as n
 use Rattle.model.specs.Site.{credentialId, records}
-use Rattle.model.specs.Accept.{exists}
+use Rattle.model.specs.Accept.{inRange, exists}
 use Rattle.model.specs.State.{panel, wellFormed}
 use Rattle.model.specs.Entry.{entryOf, entries, operationOf, answerBytes}
+use Rattle.model.specs.Checks.{timeFits}
 use Rattle.model.specs.Step.{noAnswer}
 use Rattle.model.specs.Calls.{number, isWorked, freshState}
-use Rattle.model.specs.Lists.{Run, runOn, returns, answersIn, eventIn, refusalIn, credentialIn, History, begun, ended, firstOf}
+use Rattle.model.specs.Lists.{Run, runOn, returns, Worked, answersIn, eventIn, refusalIn, credentialIn, History, begun, ended, worked, firstOf}
 use Rattle.model.specs.Tally.{standing, tallyOf, countOf}
 use Rattle.model.specs.Part.{Part, SelfContained, partRecords, partEntries, partAnswers, partState}
 use Rattle.model.specs.Earned.{Earned}
+use Rattle.model.specs.Shifts.{isShift, untilMidnight, sinceMidnight, Halved, others}
 use Rattle.model.specs.declared.Returned.{Returned}
 use Rattle.model.specs.declared.Returned.the-variants.{StateForm}
 use Rattle.model.specs.declared.Operation.the-variants.{Factor}
@@ -72,3 +74,21 @@ GrantEarned =
     (operationOf (entryOf (getD (entries (r .journal)) i []) .operation) ≡ Factor)
     × Earned (panel site (runOn site state (firstOf i r) .state)) (entryOf (getD (entries (r .journal)) i []))
     (credentialId (credentialIn (getD (answersIn (runOn site state r .answers)) i [])))
+
+-- Shifts that cross midnight (beyond document 02): "a rule with from > to on a set of days fits exactly when one of two rules does, from..1,440 on
+-- these days or 0..to on the days after them", for all weeks. Both are in range, and neither crosses midnight.
+unfoldable pub ShiftHalves : Type 0
+ShiftHalves =
+    (s : List ℕ) → inRange s ≡ true → isShift s ≡ true →
+    ((time : ℕ) → timeFits time s ≡ timeFits time (untilMidnight s) || timeFits time (sinceMidnight s))
+    × (inRange (untilMidnight s) && not (isShift (untilMidnight s)) ≡ true)
+    × (inRange (sinceMidnight s) && not (isShift (sinceMidnight s)) ≡ true)
+
+-- "so estates may rewrite their old pairs of rules and get the same decisions": two sites that differ in that alone return the same to every list
+-- of runs from fresh, with the same answers, and leave the same state records beside all records but rules.
+unfoldable pub SameShifts : Type 0
+SameShifts =
+    (g h : History) → Halved (records (g .site)) (records (h .site)) → g .runs ≡ h .runs →
+    (returns (g .site) (begun g) (g .runs) ≡ returns (h .site) (begun h) (h .runs))
+    × (map (λ (w : Worked). w .answer) (worked g) ≡ map (λ (w : Worked). w .answer) (worked h))
+    × (others (panel (g .site) (ended g)) ≡ others (panel (h .site) (ended h)))

@@ -13,4 +13,5 @@ pub mod Print
 pub mod Tally
 pub mod Part
 pub mod Earned
+pub mod Shifts
 pub mod Demands

@@ -13,6 +13,7 @@ use lib.ListN.{length, take, drop, length-append}
 use lib.Pow.{pow-pos, pow-add, shr-shr, high, low, mod-pow-add, field, mod-mod-pow}
 use lib.Seq.{take-at, drop-at}
 use Rattle.model.specs.Words.{bit, bitOf}
+use Rattle.model.proofs.Bits.{bit-above, bit-mod}
 use Rattle.wiegand.specs.Wiegand.{bits, numberOf, numberOfOnes}
 
 -- ── bits of a number
@@ -21,10 +22,6 @@ pub length-bits : (w n : ℕ) → length (bits w n) ≡ w
 unfolding bits
 length-bits zero n = refl
 length-bits (suc w) n = ap suc (length-bits w n)
-
--- Bit a of what stands above the low b bits.
-bit-above : (n a b : ℕ) → bit (n / 2 ^ b) a ≡ bit n (a + b)
-bit-above n a b = rw (shr-shr n b a, add-comm b a)
 
 -- The first a of a + b bits are those of what stands above the low b, and the others are the low b.
 pub bits-join : (a b n : ℕ) → bits (a + b) n ≡ bits a (n / 2 ^ b) ++ bits b n
@@ -40,12 +37,6 @@ pub drop-bits : (a b n : ℕ) → drop a (bits (a + b) n) ≡ bits b n
 drop-bits a b n = rw (bits-join a b n) (drop-at (bits a (n / 2 ^ b)) (bits b n) a (length-bits a (n / 2 ^ b)))
 
 -- Low bits are those of the number without what stands above them.
-bit-mod : (k w n : ℕ) → bit (n % 2 ^ (suc k + w)) w ≡ bit n w
-bit-mod k w n =
-    let e : n / 2 ^ w % 2 ^ suc k % 2 ≡ n / 2 ^ w % 2 = rw (add-one k) at (mod-mod-pow (n / 2 ^ w) k 1) in
-    rw (field n (suc k) w, e)
-
--- Of fewer bits than are left, too.
 pub bits-mod : (k w n : ℕ) → bits w (n % 2 ^ (k + w)) ≡ bits w n
 unfolding bits
 bits-mod k zero n = refl

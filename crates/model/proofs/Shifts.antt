@@ -1,0 +1,288 @@
+-- A shift across midnight and its two halves: what they share, and that the shift fits exactly when one of them does.
+use Prim.Native.Nat.{ℕ, zero, suc, _+_, _-_, _*_, _/_, _%_, _^_, _≤_, _<_}
+use native.Mathlib.Nat.{min-le-right}
+use native.Mathlib.Numerals.{add-one}
+use native.Mathlib.Omega.{arith}
+use mathlib.Core.Path.{_≡_, refl, sym, _∙_, ap}
+use mathlib.Core.List.{List}
+use mathlib.Core.Bool.{Bool, true, false, not, _&&_, _||_, and-true}
+use lib.Dec.{ltb, leb, eqb, eqb·suc-zero}
+use lib.ListN.{length, take, drop, length-append, length-take, length-drop}
+use lib.Seq.{length-take-le}
+use borrow.Author.Tests.{ltb-true, leb-true, eqb-true, lt-ltb, le-ltb, le-leb}
+use Rattle.octets.specs.Octets.{put}
+use Rattle.octets.proofs.Laws.{length-digits, drop-put, get-put-same, get-put-before, get-put-after, same-eq}
+use Rattle.model.specs.Words.{if_then_else_, bit, within, zeros}
+use Rattle.model.specs.Numbers as n
+use Rattle.model.specs.Site.{kind, flags, recordKind, instance, always, everywhere, locationKind, weekdays, location, fromMinute, toMinute}
+use Rattle.model.specs.Accept.{clear, real, ruleInRange, inRangeAs, inRange}
+use Rattle.model.specs.Checks.{weekday, weekdayBefore, minuteOfDay, crossesMidnight, fitsWithinDay, fitsPastMidnight, timeFits}
+use Rattle.model.specs.Shifts.{isRule, isShift, followingDays, untilMidnight, sinceMidnight}
+use Rattle.model.specs.Demands.{ShiftHalves}
+use Rattle.model.proofs.Bits.{bit-above, bit-mod}
+use Rattle.model.proofs.Laws.{and-left, and-right}
+
+-- ── a rule in range
+
+-- Its location.
+abbrev pub placeInRange : List ℕ → Bool
+placeInRange s =
+    if everywhere s then eqb (locationKind s) 0 && eqb (location s) 0
+    else within n.access-zone n.access-point (locationKind s) && real (location s)
+
+pub record RuleRange (s : List ℕ) : Type 0 where
+  pub flags-in : ltb (flags s) 16 ≡ true
+  pub days-in : ltb (weekdays s) 128 ≡ true
+  pub place-in : placeInRange s ≡ true
+  pub from-in : leb (fromMinute s) n.minutes-of-day ≡ true
+  pub to-in : leb (toMinute s) n.minutes-of-day ≡ true
+  pub spare-in : clear 16 16 s ≡ true
+
+pub rule-range : (s : List ℕ) → ruleInRange s ≡ true → RuleRange s
+unfolding ruleInRange
+rule-range s h =
+    let a = ltb (flags s) 16 && ltb (weekdays s) 128 in
+    let b = a && placeInRange s in
+    let c = b && leb (fromMinute s) n.minutes-of-day in
+    let d = c && leb (toMinute s) n.minutes-of-day in
+    let minutes = and-left d (clear 16 16 s) h in
+    let from = and-left c (leb (toMinute s) n.minutes-of-day) minutes in
+    let place = and-left b (leb (fromMinute s) n.minutes-of-day) from in
+    let first = and-left a (placeInRange s) place in
+    record {
+      flags-in = and-left (ltb (flags s) 16) (ltb (weekdays s) 128) first;
+      days-in = and-right (ltb (flags s) 16) (ltb (weekdays s) 128) first;
+      place-in = and-right a (placeInRange s) place;
+      from-in = and-right b (leb (fromMinute s) n.minutes-of-day) from;
+      to-in = and-right c (leb (toMinute s) n.minutes-of-day) minutes;
+      spare-in = and-right d (clear 16 16 s) h;
+    }
+
+range-rule : (s : List ℕ) → RuleRange s → ruleInRange s ≡ true
+unfolding ruleInRange
+range-rule s r = rw (r .flags-in, r .days-in, r .place-in, r .from-in, r .to-in, r .spare-in)
+
+-- Its spare bytes are there.
+whole-rule : (s : List ℕ) → RuleRange s → 32 ≤ length s
+unfolding clear
+whole-rule s r =
+    let e : length (take 16 (drop 16 s)) ≡ 16 = ap length (same-eq (take 16 (drop 16 s)) (zeros 16) .0 (r .spare-in)) in
+    let m : 16 ≤ length (drop 16 s) = omega (arith, sym e ∙ length-take 16 (drop 16 s), min-le-right 16 (length (drop 16 s))) in
+    let l = length-drop 16 s in
+    omega arith
+
+-- ── a record with other days or minutes
+
+-- All fields of a rule but these.
+pub record Like (s t : List ℕ) : Type 0 where
+  pub same-length : length t ≡ length s
+  pub same-kind : kind t ≡ kind s
+  pub same-flags : flags t ≡ flags s
+  pub same-place-kind : locationKind t ≡ locationKind s
+  pub same-instance : instance t ≡ instance s
+  pub same-place : location t ≡ location s
+  pub same-spare : drop 16 t ≡ drop 16 s
+
+length-put : (at w v : ℕ) (s : List ℕ) → at + w ≤ length s → length (put at w v s) ≡ length s
+unfolding put
+length-put at w v s h = simp (length-append, length-take-le at s (omega arith), length-digits, length-drop) (omega arith)
+
+module _ (s : List ℕ) (long : 32 ≤ length s) where
+  days-like : (v : ℕ) → Like s (put 3 1 v s)
+  days-like v =
+      record {
+        same-length = length-put 3 1 v s (omega arith);
+        same-kind = get-put-before 3 1 v 0 1 s (omega arith) (omega arith);
+        same-flags = get-put-before 3 1 v 1 1 s (omega arith) (omega arith);
+        same-place-kind = get-put-before 3 1 v 2 1 s (omega arith) (omega arith);
+        same-instance = get-put-after 3 1 v 4 4 s (omega arith) (omega arith);
+        same-place = get-put-after 3 1 v 8 4 s (omega arith) (omega arith);
+        same-spare = drop-put 3 1 v 16 s (omega arith) (omega arith);
+      }
+
+  minutes-like : (at v : ℕ) → 12 ≤ at → at ≤ 14 → Like s (put at 2 v s)
+  minutes-like at v low high =
+      record {
+        same-length = length-put at 2 v s (omega arith);
+        same-kind = get-put-before at 2 v 0 1 s (omega arith) (omega arith);
+        same-flags = get-put-before at 2 v 1 1 s (omega arith) (omega arith);
+        same-place-kind = get-put-before at 2 v 2 1 s (omega arith) (omega arith);
+        same-instance = get-put-before at 2 v 4 4 s (omega arith) (omega arith);
+        same-place = get-put-before at 2 v 8 4 s (omega arith) (omega arith);
+        same-spare = drop-put at 2 v 16 s (omega arith) (omega arith);
+      }
+
+like-trans : (s t u : List ℕ) → Like s t → Like t u → Like s u
+like-trans s t u a b =
+    record {
+      same-length = b .same-length ∙ a .same-length;
+      same-kind = b .same-kind ∙ a .same-kind;
+      same-flags = b .same-flags ∙ a .same-flags;
+      same-place-kind = b .same-place-kind ∙ a .same-place-kind;
+      same-instance = b .same-instance ∙ a .same-instance;
+      same-place = b .same-place ∙ a .same-place;
+      same-spare = b .same-spare ∙ a .same-spare;
+    }
+
+-- It is in range where its days and minutes are.
+like-range : (s t : List ℕ) → Like s t → RuleRange s → ltb (weekdays t) 128 ≡ true → leb (fromMinute t) n.minutes-of-day ≡ true
+    → leb (toMinute t) n.minutes-of-day ≡ true → RuleRange t
+unfolding clear
+like-range s t l r days from to =
+    record {
+      flags-in = rw (l .same-flags) (r .flags-in);
+      days-in = days;
+      place-in = rw (l .same-flags, l .same-place-kind, l .same-place) (r .place-in);
+      from-in = from;
+      to-in = to;
+      spare-in = rw (l .same-spare) (r .spare-in);
+    }
+
+-- ── the halves
+
+-- A bit below Sunday's.
+low-bit : (d i : ℕ) → i < 6 → bit (d % 64) i ≡ bit d i
+low-bit d i h =
+    let e : suc (5 - i) + i ≡ 6 = omega arith in
+    rw e at (bit-mod (5 - i) i d)
+
+-- The bit of a day among the following days is the bit of the day before.
+next-bit : (d i : ℕ) → d < 128 → i < 7 → bit (followingDays d) i ≡ bit d (weekdayBefore i)
+unfolding followingDays weekdayBefore
+next-bit d zero h k =
+    let e : (d % 64 * 2 + d / 64) / 1 % 2 ≡ d / 64 % 2 = omega arith in
+    rw e
+next-bit d (suc i) h k =
+    let half : (d % 64 * 2 + d / 64) / 2 ≡ d % 64 = omega arith in
+    let up : bit (d % 64) i ≡ bit (d % 64 * 2 + d / 64) (suc i) = rw (half, add-one i) at (bit-above (d % 64 * 2 + d / 64) i 1) in
+    let before : suc i - 1 ≡ i = omega arith in
+    rw (eqb·suc-zero i, before) (sym up ∙ low-bit d i (omega arith))
+
+-- A day has seven weekdays and 1,440 minutes.
+weekday-below : (time : ℕ) → weekday time < 7
+unfolding weekday
+weekday-below time = omega arith
+
+minute-below : (time : ℕ) → minuteOfDay time < 1440
+unfolding minuteOfDay
+minute-below time = omega arith
+
+module _ (s : List ℕ) (r : RuleRange s) where
+  long : 32 ≤ length s
+  long = whole-rule s r
+
+  -- The fields of the halves.
+  pub until-like : Like s (untilMidnight s)
+  unfolding untilMidnight
+  until-like = minutes-like s long 14 n.minutes-of-day (omega arith) (omega arith)
+
+  abbrev later : List ℕ
+  later = put 3 1 (followingDays (weekdays s)) s
+
+  long-later : 32 ≤ length later
+  long-later = rw (length-put 3 1 (followingDays (weekdays s)) s (omega (arith, long))) long
+
+  pub since-like : Like s (sinceMidnight s)
+  unfolding sinceMidnight
+  since-like = like-trans s later (sinceMidnight s) (days-like s long (followingDays (weekdays s))) (minutes-like later long-later 12 0 (omega arith) (omega arith))
+
+  until-days : weekdays (untilMidnight s) ≡ weekdays s
+  unfolding untilMidnight
+  until-days = get-put-before 14 2 n.minutes-of-day 3 1 s (omega (arith, long)) (omega arith)
+
+  until-from : fromMinute (untilMidnight s) ≡ fromMinute s
+  unfolding untilMidnight
+  until-from = get-put-before 14 2 n.minutes-of-day 12 2 s (omega (arith, long)) (omega arith)
+
+  until-to : toMinute (untilMidnight s) ≡ n.minutes-of-day
+  unfolding untilMidnight
+  until-to = get-put-same 14 1 n.minutes-of-day s (omega (arith, long))
+
+  since-days : weekdays (sinceMidnight s) ≡ followingDays (weekdays s)
+  unfolding sinceMidnight
+  since-days =
+      get-put-before 12 2 0 3 1 later (omega (arith, long-later)) (omega arith) ∙ get-put-same 3 0 (followingDays (weekdays s)) s (omega (arith, long))
+
+  since-from : fromMinute (sinceMidnight s) ≡ 0
+  unfolding sinceMidnight
+  since-from = get-put-same 12 1 0 later (omega (arith, long-later))
+
+  since-to : toMinute (sinceMidnight s) ≡ toMinute s
+  unfolding sinceMidnight
+  since-to =
+      get-put-after 12 2 0 14 2 later (omega (arith, long-later)) (omega arith)
+      ∙ get-put-after 3 1 (followingDays (weekdays s)) 14 2 s (omega (arith, long)) (omega arith)
+
+  -- They are in range, and cross no midnight.
+  following-in : ltb (followingDays (weekdays s)) 128 ≡ true
+  unfolding followingDays
+  following-in = let d = ltb-true (weekdays s) 128 (r .days-in) in lt-ltb (weekdays s % 64 * 2 + weekdays s / 64) 128 (omega arith)
+
+  until-range : RuleRange (untilMidnight s)
+  until-range = like-range s (untilMidnight s) until-like r (rw until-days (r .days-in)) (rw until-from (r .from-in)) (rw until-to refl)
+
+  since-range : RuleRange (sinceMidnight s)
+  since-range = like-range s (sinceMidnight s) since-like r (rw since-days following-in) (rw since-from refl) (rw since-to (r .to-in))
+
+  until-within : crossesMidnight (untilMidnight s) ≡ false
+  unfolding crossesMidnight
+  until-within = rw (until-from, until-to) (le-ltb n.minutes-of-day (fromMinute s) (leb-true _ _ (r .from-in)))
+
+  since-within : crossesMidnight (sinceMidnight s) ≡ false
+  unfolding crossesMidnight
+  since-within = rw (since-from, since-to) (le-ltb (toMinute s) 0 (omega arith))
+
+  -- The shift fits exactly when one of them does.
+  until-fits : (time : ℕ) → timeFits time (untilMidnight s) ≡ always s || bit (weekdays s) (weekday time) && leb (fromMinute s) (minuteOfDay time)
+  unfolding timeFits fitsWithinDay
+  until-fits time =
+      rw (until-like .same-flags, until-within, until-days, until-from, until-to, lt-ltb (minuteOfDay time) n.minutes-of-day (minute-below time))
+      (simp and-true)
+
+  since-fits : (time : ℕ) → timeFits time (sinceMidnight s) ≡ always s || bit (weekdays s) (weekdayBefore (weekday time)) && ltb (minuteOfDay time) (toMinute s)
+  unfolding timeFits fitsWithinDay
+  since-fits time =
+      rw (
+        since-like .same-flags,
+        since-within,
+        since-days,
+        since-from,
+        since-to,
+        next-bit (weekdays s) (weekday time) (ltb-true (weekdays s) 128 (r .days-in)) (weekday-below time),
+        le-leb 0 (minuteOfDay time) (omega arith),
+      )
+      (simp and-true)
+
+  pub fits-halves : crossesMidnight s ≡ true → (time : ℕ) → timeFits time s ≡ timeFits time (untilMidnight s) || timeFits time (sinceMidnight s)
+  unfolding timeFits fitsPastMidnight
+  fits-halves c time =
+      rw (c, until-fits time, since-fits time)
+      (or-over (always s) (bit (weekdays s) (weekday time) && leb (fromMinute s) (minuteOfDay time)) _)
+    where
+      or-over : (a b d : Bool) → a || (b || d) ≡ (a || b) || (a || d)
+      or-over true b d = refl
+      or-over false b d = refl
+
+-- ── a shift in range
+
+pub shift-rule : (s : List ℕ) → inRange s ≡ true → isShift s ≡ true → RuleRange s
+unfolding inRange isShift
+shift-rule s h i =
+    let k = eqb-true (kind s) n.access-rule (and-left (isRule s) (crossesMidnight s) i) in
+    rule-range s (rw k at (and-right (real (instance s)) (inRangeAs (recordKind s) s) h))
+
+like-in-range : (s t : List ℕ) → inRange s ≡ true → isShift s ≡ true → Like s t → RuleRange t → crossesMidnight t ≡ false
+    → inRange t && not (isShift t) ≡ true
+unfolding inRange isShift
+like-in-range s t h i l r c =
+    let k = eqb-true (kind s) n.access-rule (and-left (isRule s) (crossesMidnight s) i) in
+    rw (c, l .same-kind, l .same-instance, k, range-rule t r, and-left (real (instance s)) (inRangeAs (recordKind s) s) h)
+
+pub shift-halves : ShiftHalves
+unfolding ShiftHalves isShift
+shift-halves s h i =
+    let r = shift-rule s h i in (
+      fits-halves s r (and-right (isRule s) (crossesMidnight s) i),
+      like-in-range s (untilMidnight s) h i (until-like s r) (until-range s r) (until-within s r),
+      like-in-range s (sinceMidnight s) h i (since-like s r) (since-range s r) (since-within s r),
+    )
