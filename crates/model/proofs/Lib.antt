@@ -20,6 +20,7 @@ pub mod Well
 pub mod WellStep
 pub mod KeptWell
 pub mod Shifts
+pub mod SameShifts
 pub mod Untouched
 pub mod Granted
 pub mod Instances

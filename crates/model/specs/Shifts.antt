@@ -41,8 +41,11 @@ unfoldable pub standsHalved : List (List ℕ) → List ℕ → Bool
 standsHalved ts s = stands ts s || isShift s && stands ts (untilMidnight s) && stands ts (sinceMidnight s)
 
 -- It stands there as it is, or it is a half of a shift that does.
+abbrev pub isHalf : List ℕ → List ℕ → Bool
+isHalf t s = isShift s && (same (untilMidnight s) t || same (sinceMidnight s) t)
+
 unfoldable pub standsWhole : List (List ℕ) → List ℕ → Bool
-standsWhole ss t = stands ss t || any (λ s. isShift s && (same (untilMidnight s) t || same (sinceMidnight s) t)) ss
+standsWhole ss t = stands ss t || any (isHalf t) ss
 
 -- Records of two sites: all but rules are the same lists. Rules may stand in any sequence, and any number of times.
 pub record Halved (ss ts : List (List ℕ)) : Type 0 where

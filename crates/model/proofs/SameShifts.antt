@@ -1,0 +1,278 @@
+-- Sites that differ in their shifts alone: their rules say the same, so that every list of runs from fresh is answered alike.
+use Prim.Native.Nat.{ℕ}
+use mathlib.Core.Path.{_≡_, refl, sym, _∙_, ap, ap₂}
+use mathlib.Core.List.{List, [], _∷_, map}
+use mathlib.Core.Bool.{Bool, true, false, not, _&&_, _||_, or-true, or-self, false≢true}
+use lib.Dec.{eqb}
+use borrow.Author.Tests.{eqb-true}
+use Rattle.octets.specs.Octets.{same}
+use Rattle.octets.proofs.Laws.{same-eq}
+use Rattle.model.specs.Words.{if_then_else_, keep, any, all}
+use Rattle.model.specs.Numbers as n
+use Rattle.model.specs.Numbers.{NONE}
+use Rattle.model.specs.Site.{kind, instance, records, negative, isAt, findIn}
+use Rattle.model.specs.Accept.{inRange}
+use Rattle.model.specs.State.{Pair, Panel, panel, sites, find, findBy}
+use Rattle.model.specs.Entry.{entryOf, answerBytes}
+use Rattle.model.specs.Checks.{identifying, confirming, factorFor, enabledRule, locationFits, crossesMidnight, timeFits, verdict}
+use Rattle.model.specs.Step.{entryOutcome, apply, panels, after, answers}
+use Rattle.model.specs.Lists.{Worked, History, ended, worked}
+use Rattle.model.specs.Shifts.{isRule, isShift, untilMidnight, sinceMidnight, stands, standsHalved, isHalf, standsWhole, Halved, others}
+use Rattle.model.specs.Demands.{SameShifts}
+use Rattle.model.specs.declared.ZoneId.{ZoneId}
+use Rattle.model.specs.declared.PointId.{PointId}
+use Rattle.model.specs.declared.CredentialId.{CredentialId}
+use Rattle.model.specs.declared.RightsId.{RightsId}
+use Rattle.model.specs.declared.Entry.{Entry}
+use Rattle.model.specs.declared.Outcome.{Outcome}
+use Rattle.model.proofs.Laws.{and-left, and-right, only, only-apply, find-only, sites-only, find-keep, sites-apply}
+use Rattle.model.proofs.Agree.{Agree, outcome-agree}
+use Rattle.model.proofs.Flat.{freshPanel, sites-fresh, only-fresh}
+use Rattle.model.proofs.Runs.{accepted, workedAt, allEntries, ended-panel, worked-list}
+use Rattle.model.proofs.Border.{kind-at}
+use Rattle.model.proofs.KeptWell.{runReturns, runEntries, begun-returns, all-entries}
+use Rattle.model.proofs.Shifts.{Like, until-like, since-like, fits-halves, shift-rule}
+
+-- ── tests of records that a shift passes exactly when one of its halves does
+
+-- A test that the one that stands there passes.
+any-stands : (q : List ℕ → Bool) (s : List ℕ) → q s ≡ true → (ss : List (List ℕ)) → stands ss s ≡ true → any q ss ≡ true
+any-stands q s p [] h = h
+any-stands q s p (t ∷ ts) h = go (same s t) refl h (any-stands q s p ts)
+  where
+    go : (c : Bool) → same s t ≡ c → c || stands ts s ≡ true → (stands ts s ≡ true → any q ts ≡ true) → q t || any q ts ≡ true
+    go true e h ih = rw (sym (same-eq s t .0 e), p)
+    go false e h ih = rw (ih h) (or-true (q t))
+
+module _ (q : List ℕ → Bool) (by-halves : (s : List ℕ) → inRange s ≡ true → isShift s ≡ true → q s ≡ q (untilMidnight s) || q (sinceMidnight s)) where
+  -- What passes in the one site passes in the other, as it is or by a half.
+  one-halved : (ts : List (List ℕ)) (s : List ℕ) → inRange s ≡ true → standsHalved ts s ≡ true → q s ≡ true → any q ts ≡ true
+  unfolding standsHalved
+  one-halved ts s r h p = go (stands ts s) refl h
+    where
+      halves : (a b : Bool) → q (untilMidnight s) ≡ a → q (sinceMidnight s) ≡ b → a || b ≡ true → stands ts (untilMidnight s) ≡ true
+          → stands ts (sinceMidnight s) ≡ true → any q ts ≡ true
+      halves true b e f o u v = any-stands q (untilMidnight s) e ts u
+      halves false b e f o u v = any-stands q (sinceMidnight s) (f ∙ o) ts v
+
+      go : (c : Bool) → stands ts s ≡ c → c || isShift s && stands ts (untilMidnight s) && stands ts (sinceMidnight s) ≡ true → any q ts ≡ true
+      go true e h = any-stands q s p ts e
+      go false e h =
+          let both = and-left (isShift s && stands ts (untilMidnight s)) (stands ts (sinceMidnight s)) h in
+          let i = and-left (isShift s) (stands ts (untilMidnight s)) both in
+          halves (q (untilMidnight s)) (q (sinceMidnight s)) refl refl (sym (by-halves s r i) ∙ p) (and-right (isShift s) (stands ts (untilMidnight s)) both)
+          (and-right (isShift s && stands ts (untilMidnight s)) (stands ts (sinceMidnight s)) h)
+
+  any-halved : (ts ss : List (List ℕ)) → all inRange ss ≡ true → all (standsHalved ts) ss ≡ true → any q ss ≡ true → any q ts ≡ true
+  any-halved ts [] r h p = absurd (false≢true p)
+  any-halved ts (s ∷ ss) r h p =
+      go (q s) refl p (any-halved ts ss (and-right (inRange s) (all inRange ss) r) (and-right (standsHalved ts s) (all (standsHalved ts) ss) h))
+    where
+      go : (c : Bool) → q s ≡ c → c || any q ss ≡ true → (any q ss ≡ true → any q ts ≡ true) → any q ts ≡ true
+      go true e p ih = one-halved ts s (and-left (inRange s) (all inRange ss) r) (and-left (standsHalved ts s) (all (standsHalved ts) ss) h) e
+      go false e p ih = ih p
+
+  -- And back: a half passes only where its shift does.
+  half-passes : (t : List ℕ) → q t ≡ true → (ss : List (List ℕ)) → all inRange ss ≡ true → any (isHalf t) ss ≡ true → any q ss ≡ true
+  half-passes t p [] r h = h
+  half-passes t p (s ∷ ss) r h =
+      go (isShift s) (same (untilMidnight s) t) (same (sinceMidnight s) t) refl refl refl h (half-passes t p ss (and-right (inRange s) (all inRange ss) r))
+    where
+      whole : isShift s ≡ true → q (untilMidnight s) || q (sinceMidnight s) ≡ true → q s || any q ss ≡ true
+      whole i o = rw (by-halves s (and-left (inRange s) (all inRange ss) r) i ∙ o)
+
+      rest : any q ss ≡ true → q s || any q ss ≡ true
+      rest h = rw h (or-true (q s))
+
+      go : (a b c : Bool) → isShift s ≡ a → same (untilMidnight s) t ≡ b → same (sinceMidnight s) t ≡ c → a && (b || c) || any (isHalf t) ss ≡ true
+          → (any (isHalf t) ss ≡ true → any q ss ≡ true) → q s || any q ss ≡ true
+      go false b c i u v h ih = rest (ih h)
+      go true true c i u v h ih = whole i (rw (same-eq (untilMidnight s) t .0 u, p))
+      go true false true i u v h ih = whole i (rw (same-eq (sinceMidnight s) t .0 v, p) (or-true (q (untilMidnight s))))
+      go true false false i u v h ih = rest (ih h)
+
+  any-whole : (ss ts : List (List ℕ)) → all inRange ss ≡ true → all (standsWhole ss) ts ≡ true → any q ts ≡ true → any q ss ≡ true
+  unfolding standsWhole
+  any-whole ss [] r h p = absurd (false≢true p)
+  any-whole ss (t ∷ ts) r h p =
+      go (q t) refl p (and-left (standsWhole ss t) (all (standsWhole ss) ts) h) (any-whole ss ts r (and-right (standsWhole ss t) (all (standsWhole ss) ts) h))
+    where
+      one : (d : Bool) → stands ss t ≡ d → q t ≡ true → d || any (isHalf t) ss ≡ true → any q ss ≡ true
+      one true f e h = any-stands q t e ss f
+      one false f e h = half-passes t e ss r h
+
+      go : (c : Bool) → q t ≡ c → c || any q ts ≡ true → standsWhole ss t ≡ true → (any q ts ≡ true → any q ss ≡ true) → any q ss ≡ true
+      go true e p h ih = one (stands ss t) refl e h
+      go false e p h ih = ih p
+
+  -- So the same tests are passed in both.
+  any-same : (ss ts : List (List ℕ)) → all inRange ss ≡ true → Halved ss ts → any q ss ≡ any q ts
+  any-same ss ts r h = both (any q ss) (any q ts) (any-halved ts ss r (h .halved)) (any-whole ss ts r (h .whole))
+    where
+      both : (a b : Bool) → (a ≡ true → b ≡ true) → (b ≡ true → a ≡ true) → a ≡ b
+      both true b f g = sym (f refl)
+      both false true f g = g refl
+      both false false f g = refl
+
+-- ── what the rules say
+
+module _ (first second : RightsId) (point : PointId) (to : ZoneId) (time : ℕ) where
+  -- A half is a rule of the same rights, sign and location.
+  like-rule : (s t : List ℕ) → Like s t → enabledRule first second t ≡ enabledRule first second s
+  unfolding enabledRule
+  like-rule s t l = rw (l .same-kind, l .same-instance, l .same-flags)
+
+  like-location : (s t : List ℕ) → Like s t → locationFits point to t ≡ locationFits point to s
+  unfolding locationFits
+  like-location s t l = rw (l .same-flags, l .same-place-kind, l .same-place)
+
+  -- A rule of a sign that fits in location; in location and time.
+  abbrev located : (Bool → Bool) → List ℕ → Bool
+  located sign s = enabledRule first second s && (sign (negative s) && locationFits point to s)
+
+  abbrev timely : (Bool → Bool) → List ℕ → Bool
+  timely sign s = enabledRule first second s && (sign (negative s) && locationFits point to s && timeFits time s)
+
+  module _ (sign : Bool → Bool) (s : List ℕ) (r : inRange s ≡ true) (i : isShift s ≡ true) where
+    until : Like s (untilMidnight s)
+    until = until-like s (shift-rule s r i)
+
+    since : Like s (sinceMidnight s)
+    since = since-like s (shift-rule s r i)
+
+    located-halves : located sign s ≡ located sign (untilMidnight s) || located sign (sinceMidnight s)
+    located-halves =
+        rw (
+          like-rule s (untilMidnight s) until,
+          like-location s (untilMidnight s) until,
+          until .same-flags,
+          like-rule s (sinceMidnight s) since,
+          like-location s (sinceMidnight s) since,
+          since .same-flags,
+        )
+        (sym (or-self (located sign s)))
+
+    timely-halves : timely sign s ≡ timely sign (untilMidnight s) || timely sign (sinceMidnight s)
+    unfolding isShift
+    timely-halves =
+        rw (
+          like-rule s (untilMidnight s) until,
+          like-location s (untilMidnight s) until,
+          until .same-flags,
+          like-rule s (sinceMidnight s) since,
+          like-location s (sinceMidnight s) since,
+          since .same-flags,
+          fits-halves s (shift-rule s r i) (and-right (isRule s) (crossesMidnight s) i) time,
+        )
+        (over (enabledRule first second s) (sign (negative s) && locationFits point to s) (timeFits time (untilMidnight s)) (timeFits time (sinceMidnight s)))
+      where
+        over : (a b c d : Bool) → a && (b && (c || d)) ≡ a && (b && c) || a && (b && d)
+        over false b c d = refl
+        over true false c d = refl
+        over true true c d = refl
+
+  verdict-same : (ss ts : List (List ℕ)) → all inRange ss ≡ true → Halved ss ts → verdict first second point to time ss ≡ verdict first second point to time ts
+  unfolding verdict
+  verdict-same ss ts r h =
+      λ i. record {
+        «negative_fits» = any-same (timely (λ c. c)) (timely-halves (λ c. c)) ss ts r h i;
+        «positive_fits» = any-same (timely not) (timely-halves not) ss ts r h i;
+        «positive_located» = any-same (located not) (located-halves not) ss ts r h i;
+      }
+
+-- ── panels that differ in their rules alone, and whose rules say the same
+
+-- All records but rules.
+abbrev notRule : List ℕ → Bool
+notRule s = not (isRule s)
+
+record ButRules (ps qs : Panel) : Type 0 where
+  same-others : only notRule ps ≡ only notRule qs
+  same-rules : (first second : RightsId) (point : PointId) (to : ZoneId) (time : ℕ) →
+      verdict first second point to time (sites ps) ≡ verdict first second point to time (sites qs)
+
+-- What is of another kind is found among the others.
+other-kind : (k : ℕ) → eqb k n.access-rule ≡ false → (s : List ℕ) → kind s ≡ k → notRule s ≡ true
+other-kind k h s e = rw (e, h)
+
+module _ (ps : Panel) where
+  find-other : (k i : ℕ) → eqb k n.access-rule ≡ false → find k i (only notRule ps) ≡ find k i ps
+  unfolding find
+  find-other k i h = find-only notRule (isAt k i) ps (λ a. other-kind k h _ (kind-at k i _ a))
+
+  factor-other : (c : CredentialId) (e : Entry) → factorFor c e (sites (only notRule ps)) ≡ factorFor c e (sites ps)
+  unfolding factorFor
+  factor-other c e = rw (sites-only notRule ps) (go (eqb (c .0) NONE))
+    where
+      factor : (s : List ℕ) → eqb (kind s) n.authentication-factor ≡ true → notRule s ≡ true
+      factor s h = other-kind n.authentication-factor refl s (eqb-true (kind s) n.authentication-factor h)
+
+      identified : (s : List ℕ) → identifying (e .argument) (e .value) s ≡ true → notRule s ≡ true
+      identified s h = factor s (unfold identifying in and-left (eqb (kind s) n.authentication-factor) _ h)
+
+      confirmed : (s : List ℕ) → confirming c (e .argument) (e .value) s ≡ true → notRule s ≡ true
+      confirmed s h =
+          factor s (unfold confirming in and-left (eqb (kind s) n.authentication-factor) _ (and-left (isAt n.authentication-factor (c .0) s) _ h))
+
+      go : (d : Bool) →
+          (if d then findIn (identifying (e .argument) (e .value)) (keep notRule (sites ps)) else findIn (confirming c (e .argument) (e .value)) (keep notRule (sites ps)))
+          ≡ (if d then findIn (identifying (e .argument) (e .value)) (sites ps) else findIn (confirming c (e .argument) (e .value)) (sites ps))
+      go true = find-keep notRule (identifying (e .argument) (e .value)) (sites ps) (identified _)
+      go false = find-keep notRule (confirming c (e .argument) (e .value)) (sites ps) (confirmed _)
+
+-- So an entry reads the same in both, and leaves two such panels.
+but-rules-agree : (ps qs : Panel) → ButRules ps qs → Agree ps qs
+but-rules-agree ps qs b =
+    record {
+      objects = λ k i h. sym (find-other ps k i h) ∙ ap (find k i) (b .same-others) ∙ find-other qs k i h;
+      factors = λ c e. sym (factor-other ps c e) ∙ ap (λ xs. factorFor c e (sites xs)) (b .same-others) ∙ factor-other qs c e;
+      rules = b .same-rules;
+    }
+
+but-rules-apply : (o : Outcome) (ps qs : Panel) → ButRules ps qs → ButRules (apply o ps) (apply o qs)
+but-rules-apply o ps qs b =
+    record {
+      same-others = others-apply ps ∙ ap (apply o) (b .same-others) ∙ sym (others-apply qs);
+      same-rules = λ first second point to time. rw (sites-apply o ps, sites-apply o qs) (b .same-rules first second point to time);
+    }
+  where
+    others-apply : (ps : Panel) → only notRule (apply o ps) ≡ apply o (only notRule ps)
+    others-apply ps = only-apply notRule (λ k i. not (eqb k n.access-rule)) (λ k i s h. rw (kind-at k i s h)) o ps
+
+-- Every list of entries.
+same-list : (es : List Entry) (ps qs : Panel) → ButRules ps qs → (answers ps es ≡ answers qs es) × (only notRule (after ps es) ≡ only notRule (after qs es))
+unfolding answers after
+same-list [] ps qs b = (refl, b .same-others)
+same-list (e ∷ es) ps qs b =
+    let o = outcome-agree ps qs (but-rules-agree ps qs b) e in
+    rw o
+    (let rest = same-list es (apply (entryOutcome qs e) ps) (apply (entryOutcome qs e) qs) (but-rules-apply (entryOutcome qs e) ps qs b) in
+    (ap (λ rs. entryOutcome qs e .answer ∷ rs) (rest .0), rest .1))
+
+-- ── lists of runs from fresh
+
+-- The answers of worked entries.
+answers-at : (bs : List (List ℕ)) (ps : Panel) → map (λ (w : Worked). w .answer) (workedAt ps bs) ≡ map answerBytes (answers ps (map entryOf bs))
+unfolding workedAt panels answers
+answers-at [] ps = refl
+answers-at (b ∷ bs) ps = ap (λ rs. answerBytes (entryOutcome ps (entryOf b) .answer) ∷ rs) (answers-at bs (apply (entryOutcome ps (entryOf b)) ps))
+
+begun-but-rules : (g h : History) → Halved (records (g .site)) (records (h .site)) → ButRules (freshPanel (records (g .site))) (freshPanel (records (h .site)))
+begun-but-rules g h d =
+    let ss = records (g .site) in
+    let ts = records (h .site) in
+    record {
+      same-others = only-fresh notRule ss ∙ ap freshPanel (d .others) ∙ sym (only-fresh notRule ts);
+      same-rules = λ first second point to time.
+          rw (sites-fresh ss, sites-fresh ts) (verdict-same first second point to time ss ts (accepted g .in-range) d);
+    }
+
+pub same-shifts : SameShifts
+unfolding SameShifts others
+same-shifts g h d e =
+    let entered = all-entries g ∙ ap runEntries e ∙ sym (all-entries h) in
+    let list = same-list (map entryOf (allEntries h)) (freshPanel (records (g .site))) (freshPanel (records (h .site))) (begun-but-rules g h d) in (
+      begun-returns g ∙ ap (map runReturns) e ∙ sym (begun-returns h),
+      rw (worked-list g, worked-list h, answers-at (allEntries g), answers-at (allEntries h), entered) (ap (map answerBytes) (list .0)),
+      rw (ended-panel g, ended-panel h, entered) (list .1),
+    )
