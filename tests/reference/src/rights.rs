@@ -2,7 +2,7 @@
 
 use crate::numbers::{event, kind, location_kind, rule_flag, NONE};
 use crate::site::{instance_of, kind_of, records, CredentialRecord, PointRecord, RuleRecord};
-use crate::time::{minute_of_day, weekday};
+use crate::time::{minute_of_day, weekday, weekday_before};
 use std::ops::ControlFlow;
 
 /// Evaluates the enabled rules of both rights numbers. A negative rule that fits denies, in
@@ -68,6 +68,11 @@ fn time_fits(rule: &RuleRecord, now: u32) -> bool {
     if rule.has(rule_flag::ALWAYS) {
         return true;
     }
-    let minute = minute_of_day(now);
-    rule.days() & (1 << weekday(now)) != 0 && rule.from() <= minute && minute < rule.to()
+    let (today, minute) = (weekday(now), minute_of_day(now));
+    if rule.from() <= rule.to() {
+        return rule.has_day(today) && rule.from() <= minute && minute < rule.to();
+    }
+    // It runs past midnight "and belongs to the day on which it began".
+    (rule.has_day(today) && minute >= rule.from())
+        || (rule.has_day(weekday_before(today)) && minute < rule.to())
 }

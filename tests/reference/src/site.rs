@@ -162,12 +162,17 @@ impl RuleRecord<'_> {
         get32(self.0, rule::LOCATION)
     }
 
+    /// Whether the weekday, 0 for Monday, is set.
+    pub fn has_day(&self, weekday: u32) -> bool {
+        self.days() & (1 << weekday) != 0
+    }
+
     /// Minute of the day.
     pub fn from(&self) -> u16 {
         get16(self.0, rule::FROM)
     }
 
-    /// Minute of the day.
+    /// Minute of the day; below from, of the next day.
     pub fn to(&self) -> u16 {
         get16(self.0, rule::TO)
     }
@@ -185,7 +190,7 @@ impl RuleRecord<'_> {
             && self.location_in_range()
             && self.days() & !EVERY_DAY == 0
             && is_real(instance_of(self.0))
-            && self.from() <= self.to()
+            && self.from() <= MINUTES_PER_DAY
             && self.to() <= MINUTES_PER_DAY
             && all_zero(&self.0[16..])
     }

@@ -17,6 +17,11 @@ pub fn weekday(time: u32) -> u32 {
     date(time) % DAYS_PER_WEEK
 }
 
+/// The weekday before one; before Monday, the first of all too, it is Sunday.
+pub fn weekday_before(weekday: u32) -> u32 {
+    (weekday + DAYS_PER_WEEK - 1) % DAYS_PER_WEEK
+}
+
 pub fn minute_of_day(time: u32) -> u16 {
     (time / SECONDS_PER_MINUTE % u32::from(MINUTES_PER_DAY)) as u16
 }
