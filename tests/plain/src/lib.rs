@@ -1,8 +1,8 @@
 //! Plain Rust engines that the benchmark measures the proved one against: what a Rust engineer with
 //! the standard library alone would write for speed.
 //!
-//! Both follow document 01 and share all but the lookups: `hashed` finds records by hash maps that
-//! each call builds, `linear` scans the site and takes nothing from the heap. The calls of 26-bit
+//! Both follow documents 01 and 02 and share all but the lookups: `hashed` finds records by hash maps
+//! that each call builds, `linear` scans the site and takes nothing from the heap. The calls of 26-bit
 //! readers are in `wiegand`. Of the `reference` crate they take only the papers' numbers, so that the
 //! tests compare two implementations.
 

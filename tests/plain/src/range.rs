@@ -59,7 +59,7 @@ fn rule_in_range(record: &Record) -> bool {
         | word(record, 16)
         | word(record, 24);
     let (from, to) = (get16(record, rule::FROM), get16(record, rule::TO));
-    spare == 0 && from <= to && to <= MINUTES_PER_DAY && location_in_range(record)
+    spare == 0 && from.max(to) <= MINUTES_PER_DAY && location_in_range(record)
 }
 
 #[inline(always)]

@@ -18,6 +18,8 @@ struct Place {
     has_zone_to: bool,
     /// The bit of the weekday.
     day: u8,
+    /// The bit of the weekday before.
+    day_before: u8,
     minute: u32,
 }
 
@@ -28,13 +30,7 @@ pub fn check_rights<L: Lookup>(
     point: &Record,
     now: u32,
 ) -> ControlFlow<u16> {
-    let place = Place {
-        point: half(point, record::INSTANCE),
-        zone_to: half(point, point::ZONE_TO),
-        has_zone_to: get32(point, point::ZONE_TO) != NONE,
-        day: 1 << (now / SECONDS_PER_DAY % DAYS_PER_WEEK),
-        minute: now / SECONDS_PER_MINUTE % u32::from(MINUTES_PER_DAY),
-    };
+    let place = Place::new(point, now);
     let (mut fits, mut fits_in_location) = (false, false);
     let denied = site.lookup.each_rule(site.records, credential, |rule| {
         if rule[record::FLAGS] & rule_flag::ENABLE == 0 || !place.is_in(rule) {
@@ -62,6 +58,19 @@ pub fn check_rights<L: Lookup>(
 
 impl Place {
     #[inline(always)]
+    fn new(point: &Record, now: u32) -> Place {
+        let weekday = now / SECONDS_PER_DAY % DAYS_PER_WEEK;
+        Place {
+            point: half(point, record::INSTANCE),
+            zone_to: half(point, point::ZONE_TO),
+            has_zone_to: get32(point, point::ZONE_TO) != NONE,
+            day: 1 << weekday,
+            day_before: 1 << ((weekday + DAYS_PER_WEEK - 1) % DAYS_PER_WEEK),
+            minute: now / SECONDS_PER_MINUTE % u32::from(MINUTES_PER_DAY),
+        }
+    }
+
+    #[inline(always)]
     fn is_in(&self, rule: &Rule) -> bool {
         if rule[record::FLAGS] & rule_flag::EVERYWHERE != 0 {
             return true;
@@ -78,8 +87,13 @@ impl Place {
         if rule[record::FLAGS] & rule_flag::ALWAYS != 0 {
             return true;
         }
-        let hours = get16(rule, rule::FROM).into()..get16(rule, rule::TO).into();
-        rule[rule::DAYS] & self.day != 0 && hours.contains(&self.minute)
+        let from = u32::from(get16(rule, rule::FROM));
+        let to = u32::from(get16(rule, rule::TO));
+        if rule[rule::DAYS] & self.day != 0 && from <= self.minute {
+            return self.minute < to || from > to;
+        }
+        // Before its end, a window past midnight is that of the day before.
+        self.minute < to && from > to && rule[rule::DAYS] & self.day_before != 0
     }
 
     fn without_rights(&self, fits_in_location: bool) -> u16 {
