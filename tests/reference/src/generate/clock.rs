@@ -2,22 +2,35 @@
 
 use super::random::Random;
 use crate::numbers::{NEVER, SECONDS_PER_DAY, SECONDS_PER_MINUTE};
+use crate::time::date;
 
 /// The latest time that an entry may carry.
 const LAST_TIME: u32 = NEVER - 1;
 
 /// A time for a case to begin with.
 pub fn base_time(random: &mut Random) -> u32 {
-    let day = random.below(20) as u32 * SECONDS_PER_DAY;
+    let any = random.below(20) as u32;
+    // Often a Sunday or the Monday after it, where the days of rules begin anew.
+    let day = random.pick(&[6, 7, any, any]) * SECONDS_PER_DAY;
     let minute = random.below(1_440) as u32 * SECONDS_PER_MINUTE;
     match random.below(16) {
         0 => 0,
-        1 => 100,
-        2 => LAST_TIME - random.below(200) as u32,
-        3 => random.number32().min(LAST_TIME),
-        4..=7 => day,
+        1..=2 => random.pick(&[1, 59, 60, 100, 3_600]),
+        3 => LAST_TIME - random.below(200) as u32,
+        4 => random.number32().min(LAST_TIME),
+        5..=7 => day,
+        // So that the journal runs past midnight.
+        8..=9 => day + SECONDS_PER_DAY - 1 - random.below(120) as u32,
         _ => day + minute,
     }
+}
+
+/// A time at or beside the start of a minute, of the day of `now` or of the one after it.
+pub fn beside_minute(random: &mut Random, now: u32, minute: u16) -> u32 {
+    let day = (date(now) + random.below(2) as u32).saturating_mul(SECONDS_PER_DAY);
+    let start = day.saturating_add(u32::from(minute) * SECONDS_PER_MINUTE);
+    let distance = random.pick(&[-60, -1, 0, 0, 59, 60]);
+    start.saturating_add_signed(distance).min(LAST_TIME)
 }
 
 /// A time not far from the base, on either side.

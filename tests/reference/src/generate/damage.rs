@@ -2,9 +2,9 @@
 
 use super::random::Random;
 use super::sites::MISSING;
-use crate::bytes::{get32, put32};
-use crate::layout::record;
-use crate::numbers::{ANSWER_LENGTH, ENTRY_LENGTH, NONE};
+use crate::bytes::{get16, get32, put16, put32};
+use crate::layout::{record, rule};
+use crate::numbers::{kind, ANSWER_LENGTH, ENTRY_LENGTH, MINUTES_PER_DAY, NONE};
 
 /// Damages bytes that hold units (records or entries) of one length. The outcome may by chance
 /// be sound.
@@ -12,7 +12,7 @@ pub fn damage(random: &mut Random, bytes: &mut Vec<u8>, unit: usize) {
     if bytes.len() < unit {
         return extend(random, bytes, unit);
     }
-    match random.below(16) {
+    match random.below(18) {
         0..=3 => flip(random, bytes),
         4..=7 => overwrite(random, bytes, unit),
         8 => bytes.truncate(random.below(bytes.len())),
@@ -20,7 +20,8 @@ pub fn damage(random: &mut Random, bytes: &mut Vec<u8>, unit: usize) {
         10..=11 => duplicate(random, bytes, unit),
         12 => remove(random, bytes, unit),
         13 => swap(random, bytes, unit),
-        _ => change_reference(random, bytes, unit),
+        14..=15 => change_reference(random, bytes, unit),
+        _ => change_hours(random, bytes, unit),
     }
 }
 
@@ -101,4 +102,25 @@ fn change_reference(random: &mut Random, bytes: &mut [u8], unit: usize) {
         random.pick(&others)
     };
     put32(bytes, start + field, instance);
+}
+
+/// Puts from or to of a rule at or beside the end of the day, or each in the other's place. Where no
+/// unit is a rule, it changes the bytes in their places of another unit.
+fn change_hours(random: &mut Random, bytes: &mut [u8], unit: usize) {
+    let starts = (0..bytes.len() / unit).map(|index| index * unit);
+    let rules: Vec<usize> = starts
+        .filter(|start| bytes[start + record::KIND] == kind::RULE)
+        .collect();
+    let other = unit_at(random, bytes, unit);
+    let start = random.pick_or(&rules, other);
+    let (from, to) = (start + rule::FROM, start + rule::TO);
+    if random.sixteenths(4) {
+        let hours = [get16(bytes, from), get16(bytes, to)];
+        put16(bytes, from, hours[1]);
+        put16(bytes, to, hours[0]);
+        return;
+    }
+    let end = MINUTES_PER_DAY;
+    let minute = random.pick(&[end - 1, end, end + 1, end + 1, end + 2, u16::MAX]);
+    put16(bytes, random.pick(&[from, to]), minute);
 }

@@ -1,6 +1,6 @@
 //! Journals whose entries mostly meet the objects of a site, with bad entries of every kind.
 
-use super::clock::next_time;
+use super::clock::{beside_minute, next_time};
 use super::random::Random;
 use super::sites::{self, MISSING};
 use super::states;
@@ -9,7 +9,7 @@ use crate::layout::entry;
 use crate::numbers::{
     factor_role, factors_wanted, format, kind, ENTRY_LENGTH, NEVER, NONE, VALUE_LENGTH,
 };
-use crate::site::{instance_of, kind_of, records, FactorRecord, PointRecord};
+use crate::site::{instance_of, kind_of, records, FactorRecord, PointRecord, RuleRecord};
 
 /// The objects of a site that entries name.
 struct Objects<'a> {
@@ -19,6 +19,8 @@ struct Objects<'a> {
     two_factor_points: Vec<u32>,
     credentials: Vec<u32>,
     factors: Vec<FactorRecord<'a>>,
+    /// The minutes at which rules begin or cease to fit.
+    rule_minutes: Vec<u16>,
 }
 
 impl<'a> Objects<'a> {
@@ -33,6 +35,10 @@ impl<'a> Objects<'a> {
                 .collect(),
             credentials: of(kind::CREDENTIAL).map(instance_of).collect(),
             factors: of(kind::FACTOR).map(FactorRecord).collect(),
+            rule_minutes: of(kind::RULE)
+                .map(RuleRecord)
+                .flat_map(|rule| [rule.from(), rule.to()])
+                .collect(),
         }
     }
 }
@@ -63,7 +69,7 @@ struct Writer<'a> {
 
 impl<'a> Writer<'a> {
     fn entry(&mut self, random: &mut Random) -> [u8; ENTRY_LENGTH] {
-        self.now = next_time(random, self.base, self.now);
+        self.now = self.time(random);
         let entry = match random.below(64) {
             0..=39 => self.read(random),
             40..=42 => self.unknown_read(random),
@@ -76,6 +82,16 @@ impl<'a> Writer<'a> {
             _ => return self.bad(random),
         };
         entry.bytes()
+    }
+
+    /// The time of the next entry: as the clock goes on, or beside a minute at which a rule begins or
+    /// ceases to fit.
+    fn time(&self, random: &mut Random) -> u32 {
+        if self.objects.rule_minutes.is_empty() || !random.sixteenths(3) {
+            return next_time(random, self.base, self.now);
+        }
+        let minute = random.pick(&self.objects.rule_minutes);
+        beside_minute(random, self.now, minute)
     }
 
     fn zone(&self, random: &mut Random) -> u32 {

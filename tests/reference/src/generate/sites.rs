@@ -5,14 +5,18 @@ use super::random::Random;
 use crate::build::{Credential, Factor, Point, Record, Rule, Zone};
 use crate::numbers::{
     authorization_mode, credential_disable, credential_flag, factor_role, factors_wanted,
-    location_kind, passback_mode, point_flag, rule_flag, zone_flag, EVERY_DAY, MINUTES_PER_DAY,
-    MOST_SITE_BYTES, MOST_THREAT_LEVEL, NEVER, NONE, RECORD_LENGTH, UNLIMITED, VALUE_LENGTH,
+    location_kind, passback_mode, point_flag, rule_flag, zone_flag, DAYS_PER_WEEK, EVERY_DAY,
+    MINUTES_PER_DAY, MOST_SITE_BYTES, MOST_THREAT_LEVEL, NEVER, NONE, RECORD_LENGTH, UNLIMITED,
+    VALUE_LENGTH,
 };
 use crate::site::are_twins;
-use crate::time::{minute_of_day, weekday};
+use crate::time::{minute_of_day, weekday, weekday_before};
 
 /// An instance that the small pool leaves out.
 pub const MISSING: u32 = 500;
+
+/// Sunday alone, among the days of a rule.
+const SUNDAY: u8 = 1 << 6;
 
 /// The numbers that a site draws from. All kinds share the instances, so that zone 7 stands beside
 /// credential 7.
@@ -91,12 +95,14 @@ struct Mix {
 
 impl Mix {
     fn new(random: &mut Random) -> Mix {
+        // More often than the others, since the rules of a site decide at such points alone.
+        let authorize = random.pick(&[0, 4, 8, 14]);
         let mut part = || random.pick(&[0, 0, 2, 6, 10]);
         Mix {
             points: part(),
             credentials: part(),
             two_factors: part(),
-            authorize: part(),
+            authorize,
             negative: part(),
             factors: part(),
         }
@@ -230,25 +236,34 @@ fn rule(
     } else {
         0
     };
-    let minutes = [minute(random, base), minute(random, base)];
     Rule {
         rights: random.pick(&pool.rights),
         flags: everywhere
             | random.flags(&[
                 (rule_flag::ENABLE, 14),
-                (rule_flag::NEGATIVE, mix.negative / 2),
-                (rule_flag::ALWAYS, 6),
+                (rule_flag::NEGATIVE, mix.negative),
+                (rule_flag::ALWAYS, 3),
             ]),
         location_kind,
         location,
-        days: match random.below(8) {
-            0 => 0,
-            1 => random.byte() & EVERY_DAY,
-            2 => 1 << weekday(base),
-            _ => EVERY_DAY,
-        },
-        from: minutes[0].min(minutes[1]),
-        to: minutes[0].max(minutes[1]),
+        days: days(random, base),
+        // In either order, since a from above to runs past midnight.
+        from: minute(random, base),
+        to: minute(random, base),
+    }
+}
+
+/// The days of a rule, often one alone: that of the base, its neighbour on either side, or Sunday.
+fn days(random: &mut Random, base: u32) -> u8 {
+    let today = weekday(base);
+    match random.below(16) {
+        0 => 0,
+        1..=2 => random.byte() & EVERY_DAY,
+        3..=5 => 1 << today,
+        6..=8 => 1 << weekday_before(today),
+        9 => 1 << ((today + 1) % DAYS_PER_WEEK),
+        10 => SUNDAY,
+        _ => EVERY_DAY,
     }
 }
 
