@@ -8,6 +8,7 @@ fn every_scenario_is_listed() {
     let listed = include_str!("../src/scenarios/mod.rs");
     for text in [
         include_str!("../src/scenarios/field_sheet.rs"),
+        include_str!("../src/scenarios/midnight.rs"),
         include_str!("../src/scenarios/misreadings.rs"),
         include_str!("../src/scenarios/paper_cases.rs"),
     ] {

@@ -2,6 +2,7 @@
 //! take a decoder of bits, so they are not of the list below.
 
 pub mod field_sheet;
+pub mod midnight;
 pub mod misreadings;
 pub mod paper_cases;
 pub mod readers;
@@ -33,6 +34,19 @@ macro_rules! test_scenarios {
             item_4_set_the_clock_back_an_hour_and_repeat_a_passback
             item_5_editing_the_east_wings_cards_leaves_the_west_wing_as_it_was
             item_5_east_entries_among_the_west_entries_change_no_west_answer
+        }
+        $crate::test_scenarios! { $engine, midnight:
+            a_shift_from_friday_evening_ends_on_saturday_morning
+            a_shift_from_sunday_evening_ends_on_monday_morning
+            a_shift_holds_to_the_end_of_the_clock
+            a_negative_shift_denies_in_both_halves_and_not_between_them
+            from_equal_to_to_never_fits
+            a_shift_from_1440_is_in_the_next_days_first_hours_alone
+            a_shift_to_0_ends_at_midnight
+            the_longest_and_the_shortest_shift
+            the_clock_set_back_within_a_shift_and_before_it
+            hours_beyond_the_day_are_refused_and_those_in_any_order_are_not
+            one_shift_is_the_pair_of_rules_that_it_replaces
         }
     };
     ($engine:expr, $group:ident: $($scenario:ident)+) => {
