@@ -1,13 +1,14 @@
-//! Waiting, lockout and marks of factor reads.
+//! Waiting, lockout, marks and hours of factor reads.
 
-use reference::build::{Credential, EntryFields, Factor, Panel, Point, Zone};
+use reference::build::{Credential, EntryFields, Factor, Panel, Point, Rule, Zone};
 use reference::bytes::get32;
 use reference::layout::{credential_state, point_state};
 use reference::numbers::{
     authorization_mode, credential_flag, event, factor_role, factors_wanted, format, kind, mark,
-    passback_mode, point_flag, zone_flag, MOST_COUNT, NEVER, NONE,
+    passback_mode, point_flag, rule_flag, zone_flag, MOST_COUNT, NEVER, NONE, SECONDS_PER_MINUTE,
 };
 use reference::one_point::{badge, enter_code, open_point, CARD, CODE};
+use std::cmp::Ordering;
 
 fn read_error(time: u32) -> EntryFields {
     EntryFields::read_factor(time, 1, format::ERROR, [0; 8])
@@ -216,4 +217,66 @@ fn a_full_count_denies_masters_too() {
     assert_eq!((last.event, last.count), (event::GRANTED, MOST_COUNT));
     let full = panel.work(badge(100));
     assert_eq!((full.event, full.count), (event::DENIED_OTHER, MOST_COUNT));
+}
+
+const MINUTES_PER_WEEK: u32 = 7 * 1_440;
+
+/// A window as a stretch of the week's minutes: on the day that it begins on, or into the next one,
+/// and from the last day into the first.
+fn is_in_window(day: u32, from: u32, to: u32, time: u32) -> bool {
+    let start = day * 1_440 + from;
+    let length = match from.cmp(&to) {
+        Ordering::Less => to - from,
+        Ordering::Equal => 0,
+        Ordering::Greater => 1_440 - from + to,
+    };
+    let minute = time / SECONDS_PER_MINUTE % MINUTES_PER_WEEK;
+    (minute + MINUTES_PER_WEEK - start) % MINUTES_PER_WEEK < length
+}
+
+/// Point 1 and a card with one rule, on one day.
+fn panel_of_window(day: u32, from: u16, to: u16) -> Panel {
+    let rule = Rule {
+        flags: rule_flag::ENABLE | rule_flag::EVERYWHERE,
+        days: 1 << day,
+        from,
+        to,
+        ..Rule::new(9)
+    };
+    Panel::fresh(&[
+        Point::new(1).record(),
+        rule.record(),
+        Credential {
+            rights: [9, NONE],
+            ..Credential::new(5)
+        }
+        .record(),
+        Factor::new(5, CARD).record(),
+    ])
+}
+
+#[test]
+fn a_window_is_a_stretch_of_the_weeks_minutes() {
+    let minutes = [0, 1, 2, 359, 360, 361, 719, 720, 721, 1_438, 1_439, 1_440];
+    let days = 0..8;
+    let entries: Vec<EntryFields> = days
+        .flat_map(|day| minutes.map(|minute| (day * 1_440 + minute) * SECONDS_PER_MINUTE))
+        .map(badge)
+        .collect();
+    for day in 0..7 {
+        for from in minutes {
+            for to in minutes {
+                let answers = panel_of_window(day, from as u16, to as u16).run(&entries);
+                for (entry, answer) in entries.iter().zip(answers) {
+                    let expected = if is_in_window(day, from, to, entry.time) {
+                        event::GRANTED
+                    } else {
+                        event::DENIED_OUT_OF_TIME_RANGE
+                    };
+                    let place = (day, from, to, entry.time);
+                    assert_eq!(answer.event, expected, "{place:?}");
+                }
+            }
+        }
+    }
 }

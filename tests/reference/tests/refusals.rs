@@ -91,6 +91,7 @@ fn fields_of_a_site_out_of_range() {
         (2, 2, 0),
         (2, 2, 3),
         (2, 3, 128),
+        (2, 12, 6),
         (2, 14, 6),
         (3, 1, 32),
         (3, 2, 4),
@@ -143,6 +144,27 @@ fn rules_everywhere_name_no_location() {
     assert_eq!(check_site(&accepted), refusal::ACCEPTED);
     assert_eq!(check_site(&with_kind.record()), refusal::SITE_FIELD);
     assert_eq!(check_site(&with_location.record()), refusal::SITE_FIELD);
+}
+
+#[test]
+fn hours_of_rules_are_at_most_1440_in_each_field_and_in_any_order() {
+    let check = |from: u16, to: u16| {
+        let rule = Rule {
+            from,
+            to,
+            ..Rule::new(1)
+        };
+        check_site(&rule.record())
+    };
+    for other in [0, 1, 720, 1_439, 1_440] {
+        for minute in [0, 1, 720, 1_439, 1_440] {
+            assert_eq!(check(minute, other), refusal::ACCEPTED, "{minute} {other}");
+        }
+        for minute in [1_441, 1_442, 0x8000, u16::MAX] {
+            assert_eq!(check(minute, other), refusal::SITE_FIELD, "from {minute}");
+            assert_eq!(check(other, minute), refusal::SITE_FIELD, "to {minute}");
+        }
+    }
 }
 
 #[test]
