@@ -133,7 +133,8 @@ impl Occurrences {
     }
 }
 
-fn assert_often<K: Ord + Debug>(
+/// Panics where one of the wanted occurred less often than `fewest`, or where another occurred.
+pub fn assert_often<K: Ord + Debug>(
     name: &str,
     counts: &BTreeMap<K, usize>,
     wanted: &[K],

@@ -1,14 +1,21 @@
-//! The generated cases reach every event, mark and refusal of document 01, and the generators of
-//! sites and states keep what they promise.
+//! The generated cases reach every event, mark and refusal of document 01 and, of document 02, each
+//! part of windows across midnight, which they tell from its misreadings; and the generators of sites
+//! and states keep what they promise.
 
+mod windows;
+
+use reference::bytes::{get16, put16};
 use reference::generate::clock::base_time;
 use reference::generate::{case, site, state, Random};
 use reference::journal::run_journal;
-use reference::numbers::{kind, refusal};
-use reference::occurrences::{Occurrences, REFUSALS};
+use reference::layout::rule;
+use reference::numbers::{event, kind, refusal, MINUTES_PER_DAY, RECORD_LENGTH};
+use reference::occurrences::{assert_often, Occurrences, REFUSALS};
 use reference::site::{check_site, kind_of, records};
 use reference::state::{fresh_state, well_formed};
 use std::collections::BTreeMap;
+use std::fmt::Debug;
+use windows::{see_generated_reads, Moment, MISREADINGS, PARTS};
 
 const CASES: usize = 20_000;
 
@@ -101,4 +108,83 @@ fn the_fresh_state_stops_after_refusal_5() {
     }
     let of_fresh = Vec::from_iter(refusal::SITE_LENGTH..=refusal::STATE_LENGTH);
     occurrences.assert_refusals(FEWEST / 4, &of_fresh);
+}
+
+/// The site with a field of its rules, from or to, at most at the end of the day.
+fn within_the_day(site: &[u8], field: usize) -> Vec<u8> {
+    let mut site = site.to_vec();
+    for record in site.chunks_exact_mut(RECORD_LENGTH) {
+        if kind_of(record) == kind::RULE {
+            let minute = get16(record, field).min(MINUTES_PER_DAY);
+            put16(record, field, minute);
+        }
+    }
+    site
+}
+
+#[test]
+fn hours_beyond_the_day_are_often_all_that_is_out_of_range() {
+    let fields = [("from", rule::FROM), ("to", rule::TO)];
+    let mut times = BTreeMap::new();
+    let mut random = Random::new(1440);
+    for _ in 0..CASES {
+        let site = case(&mut random).site;
+        if check_site(&site) != refusal::SITE_FIELD {
+            continue;
+        }
+        for (name, field) in fields {
+            if check_site(&within_the_day(&site, field)) != refusal::SITE_FIELD {
+                *times.entry(name).or_default() += 1;
+            }
+        }
+    }
+    print_rows(&times);
+    assert_often("field", &times, &fields.map(|(name, _)| name), FEWEST);
+}
+
+fn print_rows<K: Debug>(times: &BTreeMap<K, usize>) {
+    for (name, times) in times {
+        println!("{name:?}: {times}");
+    }
+}
+
+/// The fewest reads that each part of windows across midnight has to decide, and that each misreading
+/// of them has to give another event.
+const FEWEST_READS: usize = 20;
+
+#[test]
+fn each_part_of_windows_across_midnight_decides_often() {
+    let decided = [event::GRANTED, event::DENIED_NO_ACCESS_RIGHTS];
+    let outside = (event::DENIED_OUT_OF_TIME_RANGE, "outside the window");
+    let mut times = BTreeMap::new();
+    see_generated_reads(CASES, |read| {
+        for (part, fits) in PARTS {
+            if decided.contains(&read.event) && read.is_decided_by(fits) {
+                *times.entry((read.event, part)).or_default() += 1;
+            }
+        }
+        if read.is_outside_a_window() {
+            *times.entry(outside).or_default() += 1;
+        }
+    });
+    print_rows(&times);
+    let by_parts = decided.map(|event| PARTS.map(|(part, _)| (event, part)));
+    let wanted = [by_parts.concat(), vec![outside]].concat();
+    assert_often("reads decided", &times, &wanted, FEWEST_READS);
+}
+
+#[test]
+fn each_misreading_of_windows_across_midnight_gives_other_events() {
+    let mut times = BTreeMap::new();
+    see_generated_reads(CASES, |read| {
+        assert_eq!(read.event_by(Moment::fits), read.event);
+        for (misreading, fits) in MISREADINGS {
+            if read.event_by(fits) != read.event {
+                *times.entry(misreading).or_default() += 1;
+            }
+        }
+    });
+    print_rows(&times);
+    let wanted = MISREADINGS.map(|(misreading, _)| misreading);
+    assert_often("misreading", &times, &wanted, FEWEST_READS);
 }
