@@ -89,11 +89,12 @@ impl Place {
         }
         let from = u32::from(get16(rule, rule::FROM));
         let to = u32::from(get16(rule, rule::TO));
-        if rule[rule::DAYS] & self.day != 0 && from <= self.minute {
-            return self.minute < to || from > to;
+        let days = rule[rule::DAYS];
+        if from > to {
+            return (days & self.day != 0 && from <= self.minute)
+                || (days & self.day_before != 0 && self.minute < to);
         }
-        // Before its end, a window past midnight is that of the day before.
-        self.minute < to && from > to && rule[rule::DAYS] & self.day_before != 0
+        days & self.day != 0 && (from..to).contains(&self.minute)
     }
 
     fn without_rights(&self, fits_in_location: bool) -> u16 {
