@@ -16,6 +16,7 @@ pub mod Valid
 pub mod Modes
 pub mod Rules
 pub mod Midnight
+pub mod Halves
 pub mod Limits
 pub mod Grants
 pub mod Failures
