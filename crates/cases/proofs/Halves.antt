@@ -1,4 +1,4 @@
--- Shifts and their halves (beyond document 02): their bytes, both theorems applied, and for each premise a case without it of which the theorem
+-- Shifts and their halves (beyond document 02): their bytes, the theorems applied, and for each premise a case without it of which the theorem
 -- does not hold.
 use Prim.Native.Nat.{ℕ}
 use mathlib.Core.Path.{_≡_, refl}
@@ -8,14 +8,14 @@ use Rattle.octets.specs.Octets.{digits, put}
 use Rattle.model.specs.Words.{all}
 use Rattle.model.specs.Site.{records, kind}
 use Rattle.model.specs.Accept.{inRange}
-use Rattle.model.specs.State.{Pair, panel}
+use Rattle.model.specs.State.{Pair, panel, fresh}
 use Rattle.model.specs.Checks.{timeFits}
-use Rattle.model.specs.Lists.{Worked, History, begun, ended, worked, returns, eventIn}
-use Rattle.model.specs.Shifts.{isShift, followingDays, untilMidnight, sinceMidnight, standsHalved, standsWhole, Halved, others}
-use Rattle.model.specs.Demands.{ShiftHalves, SameShifts}
+use Rattle.model.specs.Lists.{Worked, History, ended, worked, workedIn, stateAfter, returns, eventIn}
+use Rattle.model.specs.Shifts.{isShift, followingDays, untilMidnight, sinceMidnight, standsHalved, standsWhole, Halved, others, Rewritten}
+use Rattle.model.specs.Demands.{ShiftHalves, SameShifts, FreshShifts}
 use Rattle.model.proofs.Build.{history, cut, examples}
 use Rattle.model.proofs.Shifts.{shift-halves}
-use Rattle.model.proofs.SameShifts.{same-shifts}
+use Rattle.model.proofs.SameShifts.{same-shifts, fresh-shifts}
 use Rattle.cases.proofs.Change.{with-fields}
 use Rattle.cases.proofs.Fields.{mode, weekdays, from-minute, to-minute, first-rights}
 use Rattle.cases.proofs.Bytes.{door, rule, person, card, pin, shows, site, bytes}
@@ -71,7 +71,7 @@ pub unmet : Unmet
 unfolding shifts night
 unmet = record { spare-day = refl; past-end = refl; within-day = refl }
 
--- ── `SameShifts`
+-- ── `SameShifts` and `FreshShifts`
 
 -- Point 2 in AUTHORIZE and credential 5 with rights 9.
 abbrev office : List (List ℕ)
@@ -98,12 +98,18 @@ pub rewritten : Halved (records (one-rule .site)) (records (two-rules .site))
 unfolding shifts night friday saturday one-rule two-rules
 rewritten = record { others = refl; halved = refl; whole = refl }
 
+pub begun-alike : Rewritten (one-rule .site) (two-rules .site) (fresh (one-rule .site)) (fresh (two-rules .site))
+unfolding shifts night friday saturday one-rule two-rules FreshShifts
+begun-alike = fresh-shifts (one-rule .site) (two-rules .site) refl refl rewritten
+
 pub alike :
-    (returns (one-rule .site) (begun one-rule) (one-rule .runs) ≡ returns (two-rules .site) (begun two-rules) (two-rules .runs))
-    × (map (λ (w : Worked). w .answer) (worked one-rule) ≡ map (λ (w : Worked). w .answer) (worked two-rules))
-    × (others (panel (one-rule .site) (ended one-rule)) ≡ others (panel (two-rules .site) (ended two-rules)))
+    (returns (one-rule .site) (fresh (one-rule .site)) (one-rule .runs) ≡ returns (two-rules .site) (fresh (two-rules .site)) (one-rule .runs))
+    × (map (λ (w : Worked). w .answer) (workedIn (one-rule .site) (fresh (one-rule .site)) (one-rule .runs))
+    ≡ map (λ (w : Worked). w .answer) (workedIn (two-rules .site) (fresh (two-rules .site)) (one-rule .runs)))
+    × Rewritten (one-rule .site) (two-rules .site) (stateAfter (one-rule .site) (fresh (one-rule .site)) (one-rule .runs))
+    (stateAfter (two-rules .site) (fresh (two-rules .site)) (one-rule .runs))
 unfolding SameShifts
-alike = same-shifts one-rule two-rules rewritten (unfold one-rule two-rules in refl)
+alike = same-shifts (one-rule .site) (two-rules .site) (fresh (one-rule .site)) (fresh (two-rules .site)) begun-alike (one-rule .runs)
 
 -- The events of a list; whether the records of two lists stand in each other, and whether the kinds of all but rules are the same.
 abbrev events : History → List ℕ
@@ -115,7 +121,8 @@ stood g h = all (standsHalved (records (h .site))) (records (g .site)) ∷ all (
 abbrev kinds : History → List ℕ
 kinds h = map (λ (x : Pair). kind (x .0)) (others (panel (h .site) (ended h)))
 
--- The first half alone; the second half on Friday; a third rule, which fits always; the halves with the records of the office in another sequence.
+-- Without a premise: the first half alone; the second half on Friday; a third rule, which fits always; the halves with the records of the office in another sequence;
+-- the same site with a state in which the credential is disabled.
 unfoldable first-alone : History
 unfolding shifts friday
 first-alone = history (office ++ (friday ∷ [])) readings refl
@@ -138,6 +145,9 @@ pub record Differing : Type 0 where
   half-misplaced : (stood one-rule wrong-day ≡ false ∷ false ∷ []) × (events wrong-day ≡ 136 ∷ 1 ∷ 136 ∷ 136 ∷ 136 ∷ [])
   rule-added : (stood one-rule third-rule ≡ true ∷ false ∷ []) × (events third-rule ≡ 1 ∷ 1 ∷ 1 ∷ 1 ∷ 1 ∷ [])
   others-moved : (stood one-rule turned-round ≡ true ∷ true ∷ []) × (kinds one-rule ++ kinds turned-round ≡ 2 ∷ 4 ∷ 5 ∷ 5 ∷ 5 ∷ 5 ∷ 4 ∷ 2 ∷ [])
+  states-differing :
+      map (λ (w : Worked). eventIn (w .answer)) (workedIn (one-rule .site) (put 82 1 1 (fresh (one-rule .site))) (one-rule .runs))
+      ≡ 158 ∷ 158 ∷ 158 ∷ 158 ∷ 158 ∷ []
 
 pub differing : Differing
 unfolding shifts night friday saturday one-rule two-rules first-alone wrong-day third-rule turned-round
@@ -148,4 +158,5 @@ differing =
       half-misplaced = (refl, refl);
       rule-added = (refl, refl);
       others-moved = (refl, refl);
+      states-differing = refl;
     }

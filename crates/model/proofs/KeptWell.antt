@@ -1,25 +1,25 @@
 -- A panel never turns back its own state: it is well formed after every list of runs from fresh, and no run returns 6.
 use Prim.Native.Nat.{ℕ, _*_, _/_, _%_}
-use mathlib.Core.Path.{_≡_, refl, ap₂}
+use mathlib.Core.Path.{_≡_, refl, sym, ap₂}
 use mathlib.Core.List.{List, [], _∷_, _++_, map}
-use mathlib.Core.Bool.{Bool, true, false, not, _&&_, _||_}
+use mathlib.Core.Bool.{Bool, true, false, not, _&&_, _||_, false≢true}
 use lib.Dec.{ltb, eqb}
 use lib.ListN.{length}
-use borrow.Author.Tests.{eq-eqb}
+use borrow.Author.Tests.{eqb-true, eq-eqb, not-false}
 use Rattle.model.specs.Words.{if_then_else_, all}
 use Rattle.model.specs.Numbers as n
 use Rattle.model.specs.Site.{records}
-use Rattle.model.specs.State.{panel, wellFormed}
+use Rattle.model.specs.State.{panel, fresh, wellFormed}
 use Rattle.model.specs.Entry.{entryOf, entries}
 use Rattle.model.specs.Calls.{isWorked, checkSite, freshReturned, freshState, checkState, runReturned, runJournal}
 use Rattle.model.specs.Lists.{Run, runOn, stateAfter, returns, History, begun, ended}
 use Rattle.model.specs.Demands.{notStateForm, WellFormed}
-use Rattle.model.proofs.Flat.{sites-panel}
-use Rattle.model.proofs.Runs.{site-accepted, site-worked, accepted, entriesBy, entriesIn, allEntries, run-panel, run-length, begun-panel, begun-length}
+use Rattle.model.proofs.Flat.{sites-panel, panel-fresh, length-fresh}
+use Rattle.model.proofs.Runs.{passed-check, site-accepted, worked-through, site-worked, entriesBy, entriesIn, run-panel, run-length, begun-fresh}
 use Rattle.model.proofs.Well.{well-fresh}
 use Rattle.model.proofs.WellStep.{well-after}
 use Rattle.model.specs.declared.Returned.{Returned}
-use Rattle.model.specs.declared.Returned.the-variants.{WorkedThrough, JournalLength, AnswersLength}
+use Rattle.model.specs.declared.Returned.the-variants.{WorkedThrough, StateLength, StateForm, JournalLength, AnswersLength}
 
 -- What a run on a well-formed state of an accepted site returns: its journal and its answers alone decide.
 abbrev pub runReturns : Run → Returned
@@ -33,36 +33,68 @@ abbrev pub runEntries : List Run → List (List ℕ)
 runEntries [] = []
 runEntries (r ∷ rs) = (if isWorked (runReturns r) then entries (r .journal) else []) ++ runEntries rs
 
-module _ (site : List ℕ) (accept : checkSite site ≡ WorkedThrough) (state : List ℕ) (long : length state ≡ length site)
-    (well : wellFormed site state ≡ true) (r : Run) where
+-- A state that a run takes: its site is accepted, and it is as long as the site and well formed.
+pub record Taken (site state : List ℕ) : Type 0 where
+  pub site-accepts : checkSite site ≡ WorkedThrough
+  pub as-long : length state ≡ length site
+  pub well : wellFormed site state ≡ true
+
+as-long-as : (site state : List ℕ) → freshReturned site state ≡ WorkedThrough → length state ≡ length site
+unfolding freshReturned isWorked
+as-long-as site state h =
+    let e : (if not (eqb (length state) (length site)) then StateLength else WorkedThrough) ≡ WorkedThrough = rw (site-worked site state h) at h in
+    eqb-true (length state) (length site) (not-false _ (passed-check (not (eqb (length state) (length site))) StateLength WorkedThrough refl e .0))
+
+pub state-taken : (site state : List ℕ) → checkState site state ≡ WorkedThrough → Taken site state
+unfolding checkState isWorked
+state-taken site state h = go (isWorked (freshReturned site state)) refl h
+  where
+    go : (c : Bool) → isWorked (freshReturned site state) ≡ c
+        → (if not c then freshReturned site state else if not (wellFormed site state) then StateForm else WorkedThrough) ≡ WorkedThrough → Taken site state
+    go true w h =
+        let f = worked-through (freshReturned site state) w in
+        record {
+          site-accepts = site-worked site state f;
+          as-long = as-long-as site state f;
+          well = not-false _ (passed-check (not (wellFormed site state)) StateForm WorkedThrough refl h .0);
+        }
+    go false w h = let z : true ≡ false = rw h at w in absurd (false≢true (sym z))
+
+pub taken-state : (site state : List ℕ) → Taken site state → checkState site state ≡ WorkedThrough
+unfolding checkState freshReturned isWorked
+taken-state site state t = rw (t .site-accepts, t .as-long, eq-eqb (length site) (length site) refl, t .well)
+
+module _ (site state : List ℕ) (t : Taken site state) (r : Run) where
   run-returned : runOn site state r .returned ≡ runReturns r
-  unfolding runOn runJournal runReturned checkState freshReturned isWorked
-  run-returned = rw (accept, long, eq-eqb (length site) (length site) refl, well)
+  unfolding runOn runJournal runReturned isWorked
+  run-returned = rw (taken-state site state t)
 
-  -- It leaves a well-formed state.
-  run-well : wellFormed site (runOn site state r .state) ≡ true
+  -- It leaves such a state.
+  run-taken : Taken site (runOn site state r .state)
   unfolding wellFormed
-  run-well =
-      let a = site-accepted site accept in
-      rw (run-panel site state r (a .whole-records) long)
-      (well-after (records site) (a .names-exist) (map entryOf (entriesBy site state r)) (panel site state) (sites-panel site state) well)
+  run-taken =
+      let a = site-accepted site (t .site-accepts) in
+      record {
+        site-accepts = t .site-accepts;
+        as-long = run-length site state r (a .whole-records) (t .as-long);
+        well =
+            rw (run-panel site state r (a .whole-records) (t .as-long))
+            (well-after (records site) (a .names-exist) (map entryOf (entriesBy site state r)) (panel site state) (sites-panel site state) (t .well));
+      }
 
--- A list of runs on a well-formed state: the state that it leaves is well formed, and what the runs return and which entries they work, each
--- run's journal and answers decide.
-record WellRun (site state : List ℕ) (rs : List Run) : Type 0 where
-  state-well : wellFormed site (stateAfter site state rs) ≡ true
-  returned : returns site state rs ≡ map runReturns rs
-  entered : entriesIn site state rs ≡ runEntries rs
+-- A list of runs on such a state: it leaves one, and what the runs return and which entries they work, each run's journal and answers decide.
+pub record WellRun (site state : List ℕ) (rs : List Run) : Type 0 where
+  pub left : Taken site (stateAfter site state rs)
+  pub returned : returns site state rs ≡ map runReturns rs
+  pub entered : entriesIn site state rs ≡ runEntries rs
 
-list-well : (site : List ℕ) → checkSite site ≡ WorkedThrough → (rs : List Run) (state : List ℕ) → length state ≡ length site →
-    wellFormed site state ≡ true → WellRun site state rs
+pub list-well : (site : List ℕ) (rs : List Run) (state : List ℕ) → Taken site state → WellRun site state rs
 unfolding stateAfter returns entriesBy entriesIn
-list-well site accept [] state long well = record { state-well = well; returned = refl; entered = refl }
-list-well site accept (r ∷ rs) state long well =
-    let l = run-length site state r (site-accepted site accept .whole-records) long in
-    let rest = list-well site accept rs (runOn site state r .state) l (run-well site accept state long well r) in
-    let first = run-returned site accept state long well r in
-    record { state-well = rest .state-well; returned = ap₂ _∷_ first (rest .returned); entered = rw (first, rest .entered) }
+list-well site [] state t = record { left = t; returned = refl; entered = refl }
+list-well site (r ∷ rs) state t =
+    let first = run-returned site state t r in
+    let rest = list-well site rs (runOn site state r .state) (run-taken site state t r) in
+    record { left = rest .left; returned = ap₂ _∷_ first (rest .returned); entered = rw (first, rest .entered) }
 
 -- None of them returns 6.
 none-state-form : (rs : List Run) → all notStateForm (map runReturns rs) ≡ true
@@ -77,24 +109,23 @@ none-state-form (r ∷ rs) =
     go false true = refl
     go false false = refl
 
--- Fresh is well formed for every accepted site.
-begun-well : (h : History) → wellFormed (h .site) (begun h) ≡ true
+-- Fresh is such a state of every accepted site.
+pub fresh-taken : (site : List ℕ) → checkSite site ≡ WorkedThrough → Taken site (fresh site)
 unfolding wellFormed
-begun-well h = rw (begun-panel h) (well-fresh (records (h .site)) (records (h .site)) (accepted h .in-range))
+fresh-taken site accept =
+    let a = site-accepted site accept in
+    record {
+      site-accepts = accept;
+      as-long = length-fresh site (a .whole-records);
+      well = rw (panel-fresh site (a .whole-records)) (well-fresh (records site) (records site) (a .in-range));
+    }
 
 -- A list of runs from fresh.
 from-fresh : (h : History) → WellRun (h .site) (begun h) (h .runs)
 unfolding freshState
-from-fresh h = list-well (h .site) (site-worked (h .site) (h .buffer) (h .accepted)) (h .runs) (begun h) (begun-length h) (begun-well h)
-
-pub begun-returns : (h : History) → returns (h .site) (begun h) (h .runs) ≡ map runReturns (h .runs)
-begun-returns h = from-fresh h .returned
-
-pub all-entries : (h : History) → allEntries h ≡ runEntries (h .runs)
-unfolding allEntries
-all-entries h = from-fresh h .entered
+from-fresh h = list-well (h .site) (h .runs) (begun h) (rw (begun-fresh h) (fresh-taken (h .site) (site-worked (h .site) (h .buffer) (h .accepted))))
 
 -- After every list of runs from fresh the state is well formed, and no run of the list returned 6.
 pub well-formed : WellFormed
 unfolding WellFormed ended
-well-formed h = (from-fresh h .state-well, rw (begun-returns h) (none-state-form (h .runs)))
+well-formed h = (from-fresh h .left .well, rw (from-fresh h .returned) (none-state-form (h .runs)))

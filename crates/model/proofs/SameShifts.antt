@@ -12,13 +12,13 @@ use Rattle.model.specs.Numbers as n
 use Rattle.model.specs.Numbers.{NONE}
 use Rattle.model.specs.Site.{kind, instance, records, negative, isAt, findIn}
 use Rattle.model.specs.Accept.{inRange}
-use Rattle.model.specs.State.{Pair, Panel, panel, sites, find, findBy}
+use Rattle.model.specs.State.{Panel, panel, sites, find, fresh}
 use Rattle.model.specs.Entry.{entryOf, answerBytes}
 use Rattle.model.specs.Checks.{identifying, confirming, factorFor, enabledRule, locationFits, crossesMidnight, timeFits, verdict}
 use Rattle.model.specs.Step.{entryOutcome, apply, panels, after, answers}
-use Rattle.model.specs.Lists.{Worked, History, ended, worked}
-use Rattle.model.specs.Shifts.{isRule, isShift, untilMidnight, sinceMidnight, stands, standsHalved, isHalf, standsWhole, Halved, others}
-use Rattle.model.specs.Demands.{SameShifts}
+use Rattle.model.specs.Lists.{Run, stateAfter, Worked}
+use Rattle.model.specs.Shifts.{isRule, isShift, untilMidnight, sinceMidnight, stands, standsHalved, isHalf, standsWhole, Halved, others, Rewritten}
+use Rattle.model.specs.Demands.{SameShifts, FreshShifts}
 use Rattle.model.specs.declared.ZoneId.{ZoneId}
 use Rattle.model.specs.declared.PointId.{PointId}
 use Rattle.model.specs.declared.CredentialId.{CredentialId}
@@ -27,10 +27,10 @@ use Rattle.model.specs.declared.Entry.{Entry}
 use Rattle.model.specs.declared.Outcome.{Outcome}
 use Rattle.model.proofs.Laws.{and-left, and-right, only, only-apply, find-only, sites-only, find-keep, sites-apply}
 use Rattle.model.proofs.Agree.{Agree, outcome-agree}
-use Rattle.model.proofs.Flat.{freshPanel, sites-fresh, only-fresh}
-use Rattle.model.proofs.Runs.{accepted, workedAt, allEntries, ended-panel, worked-list}
+use Rattle.model.proofs.Flat.{sites-panel, freshPanel, only-fresh, panel-fresh}
+use Rattle.model.proofs.Runs.{site-accepted, workedAt, list-panel, list-worked}
 use Rattle.model.proofs.Border.{kind-at}
-use Rattle.model.proofs.KeptWell.{runReturns, runEntries, begun-returns, all-entries}
+use Rattle.model.proofs.KeptWell.{runEntries, state-taken, taken-state, list-well, fresh-taken}
 use Rattle.model.proofs.Shifts.{Like, until-like, since-like, fits-halves, shift-rule}
 
 -- ── tests of records that a shift passes exactly when one of its halves does
@@ -249,7 +249,7 @@ same-list (e ∷ es) ps qs b =
     (let rest = same-list es (apply (entryOutcome qs e) ps) (apply (entryOutcome qs e) qs) (but-rules-apply (entryOutcome qs e) ps qs b) in
     (ap (λ rs. entryOutcome qs e .answer ∷ rs) (rest .0), rest .1))
 
--- ── lists of runs from fresh
+-- ── lists of runs
 
 -- The answers of worked entries.
 answers-at : (bs : List (List ℕ)) (ps : Panel) → map (λ (w : Worked). w .answer) (workedAt ps bs) ≡ map answerBytes (answers ps (map entryOf bs))
@@ -257,22 +257,61 @@ unfolding workedAt panels answers
 answers-at [] ps = refl
 answers-at (b ∷ bs) ps = ap (λ rs. answerBytes (entryOutcome ps (entryOf b) .answer) ∷ rs) (answers-at bs (apply (entryOutcome ps (entryOf b)) ps))
 
-begun-but-rules : (g h : History) → Halved (records (g .site)) (records (h .site)) → ButRules (freshPanel (records (g .site))) (freshPanel (records (h .site)))
-begun-but-rules g h d =
-    let ss = records (g .site) in
-    let ts = records (h .site) in
-    record {
-      same-others = only-fresh notRule ss ∙ ap freshPanel (d .others) ∙ sym (only-fresh notRule ts);
-      same-rules = λ first second point to time.
-          rw (sites-fresh ss, sites-fresh ts) (verdict-same first second point to time ss ts (accepted g .in-range) d);
-    }
-
 pub same-shifts : SameShifts
 unfolding SameShifts others
-same-shifts g h d e =
-    let entered = all-entries g ∙ ap runEntries e ∙ sym (all-entries h) in
-    let list = same-list (map entryOf (allEntries h)) (freshPanel (records (g .site))) (freshPanel (records (h .site))) (begun-but-rules g h d) in (
-      begun-returns g ∙ ap (map runReturns) e ∙ sym (begun-returns h),
-      rw (worked-list g, worked-list h, answers-at (allEntries g), answers-at (allEntries h), entered) (ap (map answerBytes) (list .0)),
-      rw (ended-panel g, ended-panel h, entered) (list .1),
+same-shifts site other state beside w rs =
+    let s = state-taken site state (w .taken) in
+    let o = state-taken other beside (w .taken-beside) in
+    let whole = site-accepted site (s .site-accepts) in
+    let whole-other = site-accepted other (o .site-accepts) in
+    let one = list-well site rs state s in
+    let two = list-well other rs beside o in
+    let start = but-rules site other state beside (whole .in-range) w in
+    let list = same-list (map entryOf (runEntries rs)) (panel site state) (panel other beside) start in (
+      one .returned ∙ sym (two .returned),
+      rw (
+        list-worked site (whole .whole-records) rs state (s .as-long),
+        list-worked other (whole-other .whole-records) rs beside (o .as-long),
+        one .entered,
+        two .entered,
+        answers-at (runEntries rs) (panel site state),
+        answers-at (runEntries rs) (panel other beside),
+      )
+          (ap (map answerBytes) (list .0)),
+      record {
+        taken = taken-state site (stateAfter site state rs) (one .left);
+        taken-beside = taken-state other (stateAfter other beside rs) (two .left);
+        shifts = w .shifts;
+        states =
+            rw (
+              list-panel site (whole .whole-records) rs state (s .as-long),
+              list-panel other (whole-other .whole-records) rs beside (o .as-long),
+              one .entered,
+              two .entered,
+            )
+            (list .1);
+      },
     )
+  where
+    but-rules : (site other state beside : List ℕ) → all inRange (records site) ≡ true → Rewritten site other state beside
+        → ButRules (panel site state) (panel other beside)
+    but-rules site other state beside r w =
+        record {
+          same-others = w .states;
+          same-rules = λ first second point to time.
+              rw (sites-panel site state, sites-panel other beside) (verdict-same first second point to time (records site) (records other) r (w .shifts));
+        }
+
+pub fresh-shifts : FreshShifts
+unfolding FreshShifts others
+fresh-shifts site other s o d =
+    let whole = site-accepted site s in
+    let whole-other = site-accepted other o in
+    record {
+      taken = taken-state site (fresh site) (fresh-taken site s);
+      taken-beside = taken-state other (fresh other) (fresh-taken other o);
+      shifts = d;
+      states =
+          rw (panel-fresh site (whole .whole-records), panel-fresh other (whole-other .whole-records))
+          (only-fresh notRule (records site) ∙ ap freshPanel (d .others) ∙ sym (only-fresh notRule (records other)));
+    }

@@ -12,10 +12,10 @@ use lib.Seq.{length-take-le}
 use borrow.Author.Tests.{ltb-true, leb-true, eqb-true, lt-ltb, le-ltb, le-leb}
 use Rattle.octets.specs.Octets.{put}
 use Rattle.octets.proofs.Laws.{length-digits, drop-put, get-put-same, get-put-before, get-put-after, same-eq}
-use Rattle.model.specs.Words.{if_then_else_, bit, within, zeros}
+use Rattle.model.specs.Words.{bit, zeros}
 use Rattle.model.specs.Numbers as n
-use Rattle.model.specs.Site.{kind, flags, recordKind, instance, always, everywhere, locationKind, weekdays, location, fromMinute, toMinute}
-use Rattle.model.specs.Accept.{clear, real, ruleInRange, inRangeAs, inRange}
+use Rattle.model.specs.Site.{kind, flags, recordKind, instance, always, locationKind, weekdays, location, fromMinute, toMinute}
+use Rattle.model.specs.Accept.{clear, real, locationInRange, ruleInRange, inRangeAs, inRange}
 use Rattle.model.specs.Checks.{weekday, weekdayBefore, minuteOfDay, crossesMidnight, fitsWithinDay, fitsPastMidnight, timeFits}
 use Rattle.model.specs.Shifts.{isRule, isShift, followingDays, untilMidnight, sinceMidnight}
 use Rattle.model.specs.Demands.{ShiftHalves}
@@ -24,16 +24,10 @@ use Rattle.model.proofs.Laws.{and-left, and-right}
 
 -- ── a rule in range
 
--- Its location.
-abbrev pub placeInRange : List ℕ → Bool
-placeInRange s =
-    if everywhere s then eqb (locationKind s) 0 && eqb (location s) 0
-    else within n.access-zone n.access-point (locationKind s) && real (location s)
-
 pub record RuleRange (s : List ℕ) : Type 0 where
   pub flags-in : ltb (flags s) 16 ≡ true
   pub days-in : ltb (weekdays s) 128 ≡ true
-  pub place-in : placeInRange s ≡ true
+  pub place-in : locationInRange s ≡ true
   pub from-in : leb (fromMinute s) n.minutes-of-day ≡ true
   pub to-in : leb (toMinute s) n.minutes-of-day ≡ true
   pub spare-in : clear 16 16 s ≡ true
@@ -42,17 +36,17 @@ pub rule-range : (s : List ℕ) → ruleInRange s ≡ true → RuleRange s
 unfolding ruleInRange
 rule-range s h =
     let a = ltb (flags s) 16 && ltb (weekdays s) 128 in
-    let b = a && placeInRange s in
+    let b = a && locationInRange s in
     let c = b && leb (fromMinute s) n.minutes-of-day in
     let d = c && leb (toMinute s) n.minutes-of-day in
     let minutes = and-left d (clear 16 16 s) h in
     let from = and-left c (leb (toMinute s) n.minutes-of-day) minutes in
     let place = and-left b (leb (fromMinute s) n.minutes-of-day) from in
-    let first = and-left a (placeInRange s) place in
+    let first = and-left a (locationInRange s) place in
     record {
       flags-in = and-left (ltb (flags s) 16) (ltb (weekdays s) 128) first;
       days-in = and-right (ltb (flags s) 16) (ltb (weekdays s) 128) first;
-      place-in = and-right a (placeInRange s) place;
+      place-in = and-right a (locationInRange s) place;
       from-in = and-right b (leb (fromMinute s) n.minutes-of-day) from;
       to-in = and-right c (leb (toMinute s) n.minutes-of-day) minutes;
       spare-in = and-right d (clear 16 16 s) h;

@@ -39,14 +39,17 @@ pointInRange s =
     && (eqb (pointOf s .«zone_to» .0) NONE || not (eqb (pointOf s .«zone_to» .0) (pointOf s .«zone_from» .0)))
     && leb (pointOf s .«threat_level») largest-threat && clear 28 4 s
 
--- A rule: four flags; seven days; "Everywhere: 2 and 8 are zero." Document 02, job 3: "both stay at most 1,440. Refusal 2 no longer includes
--- from > to."
+-- "2: location kind 1 zone or 2 point. .. Everywhere: 2 and 8 are zero."
+abbrev pub locationInRange : List ℕ → Bool
+locationInRange s =
+    if everywhere s then eqb (locationKind s) 0 && eqb (location s) 0
+    else within access-zone access-point (locationKind s) && real (location s)
+
+-- A rule: four flags; seven days; its location. Document 02, job 3: "both stay at most 1,440. Refusal 2 no longer includes from > to."
 unfoldable pub ruleInRange : List ℕ → Bool
 ruleInRange s =
-    ltb (flags s) 16 && ltb (weekdays s) 128
-    && (if everywhere s then eqb (locationKind s) 0 && eqb (location s) 0
-    else within access-zone access-point (locationKind s) && real (location s))
-    && leb (fromMinute s) minutes-of-day && leb (toMinute s) minutes-of-day && clear 16 16 s
+    ltb (flags s) 16 && ltb (weekdays s) 128 && locationInRange s && leb (fromMinute s) minutes-of-day
+    && leb (toMinute s) minutes-of-day && clear 16 16 s
 
 -- A credential: five flags; disable 0 to 3; threat authority 0..100; rights numbers or NONE.
 unfoldable pub credentialInRange : List ℕ → Bool

@@ -11,18 +11,18 @@ use Rattle.model.specs.Words.{all}
 use Rattle.model.specs.Numbers as n
 use Rattle.model.specs.Site.{credentialId, records}
 use Rattle.model.specs.Accept.{inRange, exists}
-use Rattle.model.specs.State.{panel, wellFormed}
+use Rattle.model.specs.State.{panel, fresh, wellFormed}
 use Rattle.model.specs.Entry.{entryOf, entries, operationOf, answerBytes}
 use Rattle.model.specs.Checks.{timeFits}
 use Rattle.model.specs.Step.{noAnswer}
-use Rattle.model.specs.Calls.{number, isWorked, freshState}
-use Rattle.model.specs.Lists.{Run, runOn, returns, Worked, answersIn, eventIn, refusalIn, credentialIn, History, begun, ended, worked, firstOf}
+use Rattle.model.specs.Calls.{number, isWorked, checkSite, freshState}
+use Rattle.model.specs.Lists.{Run, runOn, stateAfter, returns, Worked, answersIn, workedIn, eventIn, refusalIn, credentialIn, History, begun, ended, firstOf}
 use Rattle.model.specs.Tally.{standing, tallyOf, countOf}
 use Rattle.model.specs.Part.{Part, SelfContained, partRecords, partEntries, partAnswers, partState}
 use Rattle.model.specs.Earned.{Earned}
-use Rattle.model.specs.Shifts.{isShift, untilMidnight, sinceMidnight, Halved, others}
+use Rattle.model.specs.Shifts.{isShift, untilMidnight, sinceMidnight, Halved, Rewritten}
 use Rattle.model.specs.declared.Returned.{Returned}
-use Rattle.model.specs.declared.Returned.the-variants.{StateForm}
+use Rattle.model.specs.declared.Returned.the-variants.{WorkedThrough, StateForm}
 use Rattle.model.specs.declared.Operation.the-variants.{Factor}
 
 -- Demand 3, the count: "every zone's count is T less the smaller of zero and T's lowest standing".
@@ -84,11 +84,17 @@ ShiftHalves =
     × (inRange (untilMidnight s) && not (isShift (untilMidnight s)) ≡ true)
     × (inRange (sinceMidnight s) && not (isShift (sinceMidnight s)) ≡ true)
 
--- "so estates may rewrite their old pairs of rules and get the same decisions": two sites that differ in that alone return the same to every list
--- of runs from fresh, with the same answers, and leave the same state records beside all records but rules.
+-- "so estates may rewrite their old pairs of rules and get the same decisions": two sites that differ in that alone, with states that are the same but
+-- for it, return the same to every list of runs, with the same answers, and leave such states again.
 unfoldable pub SameShifts : Type 0
 SameShifts =
-    (g h : History) → Halved (records (g .site)) (records (h .site)) → g .runs ≡ h .runs →
-    (returns (g .site) (begun g) (g .runs) ≡ returns (h .site) (begun h) (h .runs))
-    × (map (λ (w : Worked). w .answer) (worked g) ≡ map (λ (w : Worked). w .answer) (worked h))
-    × (others (panel (g .site) (ended g)) ≡ others (panel (h .site) (ended h)))
+    (site other state beside : List ℕ) → Rewritten site other state beside → (rs : List Run) →
+    (returns site state rs ≡ returns other beside rs)
+    × (map (λ (w : Worked). w .answer) (workedIn site state rs) ≡ map (λ (w : Worked). w .answer) (workedIn other beside rs))
+    × Rewritten site other (stateAfter site state rs) (stateAfter other beside rs)
+
+-- Their fresh states are such states.
+unfoldable pub FreshShifts : Type 0
+FreshShifts =
+    (site other : List ℕ) → checkSite site ≡ WorkedThrough → checkSite other ≡ WorkedThrough → Halved (records site) (records other) →
+    Rewritten site other (fresh site) (fresh other)

@@ -7,9 +7,11 @@ use lib.Dec.{eqb}
 use Rattle.octets.specs.Octets.{put, same}
 use Rattle.model.specs.Words.{keep, any, all}
 use Rattle.model.specs.Numbers as n
-use Rattle.model.specs.Site.{kind, weekdays}
-use Rattle.model.specs.State.{Pair, Panel}
+use Rattle.model.specs.Site.{kind, weekdays, records}
+use Rattle.model.specs.State.{Pair, Panel, panel}
 use Rattle.model.specs.Checks.{crossesMidnight}
+use Rattle.model.specs.Calls.{checkState}
+use Rattle.model.specs.declared.Returned.the-variants.{WorkedThrough}
 
 -- A rule.
 abbrev pub isRule : List ℕ → Bool
@@ -56,3 +58,10 @@ pub record Halved (ss ts : List (List ℕ)) : Type 0 where
 -- All records of a panel but rules, with their state records.
 unfoldable pub others : Panel → Panel
 others ps = keep (λ (x : Pair). not (isRule (x .0))) ps
+
+-- Two such sites with states that a run takes, which are the same beside all records but rules.
+pub record Rewritten (site other state beside : List ℕ) : Type 0 where
+  pub taken : checkState site state ≡ WorkedThrough
+  pub taken-beside : checkState other beside ≡ WorkedThrough
+  pub shifts : Halved (records site) (records other)
+  pub states : others (panel site state) ≡ others (panel other beside)

@@ -4,17 +4,18 @@ use mathlib.Core.Path.{_≡_, refl}
 use mathlib.Core.List.{List, [], _∷_}
 use mathlib.Core.Bool.{Bool, true, false, _&&_, _||_, and-false}
 use native.Mathlib.Omega.{arith}
-use lib.Dec.{ltb, leb, eqb, eqb·suc-zero}
+use lib.Dec.{leb, eqb, eqb·suc-zero}
 use lib.ListN.{length, take, drop, getD, length-drop}
 use lib.Seq.{length-take-le}
 use borrow.Author.Tests.{leb-true}
-use Rattle.octets.specs.Octets.{field, groups}
+use Rattle.octets.specs.Octets.{groups}
 use Rattle.model.specs.Words.{if_then_else_, missing, within, any, all}
-use Rattle.model.specs.Numbers.{minutes-of-day, access-zone, access-point}
-use Rattle.model.specs.Site.{recordKind, instance, everywhere, locationKind, weekdays, location, fromMinute, toMinute, records, findIn}
-use Rattle.model.specs.Accept.{clear, real, ruleInRange, inRangeAs, inRange, twins, twice}
+use Rattle.model.specs.Numbers.{access-zone, access-point}
+use Rattle.model.specs.Site.{recordKind, instance, everywhere, locationKind, location, records, findIn}
+use Rattle.model.specs.Accept.{real, ruleInRange, inRangeAs, inRange, twins, twice}
 use Rattle.model.specs.declared.RecordKind.the-variants.{OfRule}
 use Rattle.model.proofs.Laws.{and-left, and-right}
+use Rattle.model.proofs.Shifts.{rule-range}
 use Rattle.index.proofs.Walks.{left-turn}
 
 -- What is missing has no bytes.
@@ -60,16 +61,9 @@ unfolding inRange
 rule-in-range s h k = rw k at (and-right (real (instance s)) (inRangeAs (recordKind s) s) h)
 
 pub point-location : (s : List ℕ) → ruleInRange s ≡ true → everywhere s ≡ false → (locationKind s ≡ access-zone → ⊥) → locationKind s ≡ access-point
-unfolding ruleInRange
 point-location s h e z =
-    let place = within access-zone access-point (locationKind s) && real (location s) in
-    let flags = ltb (field 1 1 s) 16 && ltb (weekdays s) 128 in
-    let upto = flags && place && leb (fromMinute s) minutes-of-day in
-    let inside : upto && leb (toMinute s) minutes-of-day && clear 16 16 s ≡ true = rw e at h in
-    let l = and-left (upto && leb (toMinute s) minutes-of-day) (clear 16 16 s) inside in
-    let k = and-left upto (leb (toMinute s) minutes-of-day) l in
-    let p = and-right flags place (and-left (flags && place) (leb (fromMinute s) minutes-of-day) k) in
-    let w = and-left (within access-zone access-point (locationKind s)) (real (location s)) p in
+    let inside : within access-zone access-point (locationKind s) && real (location s) ≡ true = rw e at (rule-range s h .place-in) in
+    let w = and-left (within access-zone access-point (locationKind s)) (real (location s)) inside in
     let low = leb-true access-zone (locationKind s) (and-left (leb access-zone (locationKind s)) (leb (locationKind s) access-point) w) in
     let high = leb-true (locationKind s) access-point (and-right (leb access-zone (locationKind s)) (leb (locationKind s) access-point) w) in
     omega arith
