@@ -128,10 +128,11 @@ fn fits_past_midnight(part: &[u8], time: u32) -> bool
     ensures { λ r. ⌜ r ≡ fitsPastMidnight time (now (part .entry)) ⌝ }
 {
     let days = weekdays_of(part);
-    let day = weekday_of(time);
+    let today = weekday_of(time);
+    let before = weekday_before(today);
     let minute = minute_of_day(time);
-    bit_of(days, day) & (from_minute_of(part) <= minute)
-        | bit_of(days, weekday_before(day)) & (minute < to_minute_of(part))
+    bit_of(days, today) & (from_minute_of(part) <= minute)
+        | bit_of(days, before) & (minute < to_minute_of(part))
 }
 
 // Whether a rule holds at a time.
