@@ -1,5 +1,4 @@
--- Shifts and their halves (beyond document 02): their bytes, the theorems applied, and for each premise a case without it of which the theorem
--- does not hold.
+-- Shifts and their halves (beyond document 02): their bytes, and for each premise of the theorems a case without it, of which they do not hold.
 use Prim.Native.Nat.{ℕ}
 use mathlib.Core.Path.{_≡_, refl}
 use mathlib.Core.List.{List, [], _∷_, _++_, map}
@@ -10,12 +9,9 @@ use Rattle.model.specs.Site.{records, kind}
 use Rattle.model.specs.Accept.{inRange}
 use Rattle.model.specs.State.{Pair, panel, fresh}
 use Rattle.model.specs.Checks.{timeFits}
-use Rattle.model.specs.Lists.{Worked, History, ended, worked, workedIn, stateAfter, returns, eventIn}
-use Rattle.model.specs.Shifts.{isShift, followingDays, untilMidnight, sinceMidnight, standsHalved, standsWhole, Halved, others, Rewritten}
-use Rattle.model.specs.Demands.{ShiftHalves, SameShifts, FreshShifts}
+use Rattle.model.specs.Lists.{Worked, History, ended, worked, workedIn, eventIn}
+use Rattle.model.specs.Shifts.{isShift, followingDays, untilMidnight, sinceMidnight, standsHalved, standsWhole, Halved, others}
 use Rattle.model.proofs.Build.{history, cut, examples}
-use Rattle.model.proofs.Shifts.{shift-halves}
-use Rattle.model.proofs.SameShifts.{same-shifts, fresh-shifts}
 use Rattle.cases.proofs.Change.{with-fields}
 use Rattle.cases.proofs.Fields.{mode, weekdays, from-minute, to-minute, first-rights}
 use Rattle.cases.proofs.Bytes.{door, rule, person, card, pin, shows, site, bytes}
@@ -50,11 +46,7 @@ pub written : Written
 unfolding shifts night friday saturday
 written = record { days = refl; first = refl; second = refl; crossing = refl }
 
--- ── `ShiftHalves`
-
-pub night-fits : (time : ℕ) → timeFits time night ≡ timeFits time (untilMidnight night) || timeFits time (sinceMidnight night)
-unfolding shifts night ShiftHalves
-night-fits = shift-halves night refl refl .0
+-- ── the premises of `ShiftHalves`
 
 -- Whether a rule is in range, crosses midnight and fits at a time, and whether one of its halves fits.
 abbrev halves-at : ℕ → List ℕ → List Bool
@@ -71,7 +63,7 @@ pub unmet : Unmet
 unfolding shifts night
 unmet = record { spare-day = refl; past-end = refl; within-day = refl }
 
--- ── `SameShifts` and `FreshShifts`
+-- ── the premises of `SameShifts`
 
 -- Point 2 in AUTHORIZE and credential 5 with rights 9.
 abbrev office : List (List ℕ)
@@ -97,19 +89,6 @@ two-rules = history (saturday ∷ office ++ (friday ∷ [])) readings refl
 pub rewritten : Halved (records (one-rule .site)) (records (two-rules .site))
 unfolding shifts night friday saturday one-rule two-rules
 rewritten = record { others = refl; halved = refl; whole = refl }
-
-pub begun-alike : Rewritten (one-rule .site) (two-rules .site) (fresh (one-rule .site)) (fresh (two-rules .site))
-unfolding shifts night friday saturday one-rule two-rules FreshShifts
-begun-alike = fresh-shifts (one-rule .site) (two-rules .site) refl refl rewritten
-
-pub alike :
-    (returns (one-rule .site) (fresh (one-rule .site)) (one-rule .runs) ≡ returns (two-rules .site) (fresh (two-rules .site)) (one-rule .runs))
-    × (map (λ (w : Worked). w .answer) (workedIn (one-rule .site) (fresh (one-rule .site)) (one-rule .runs))
-    ≡ map (λ (w : Worked). w .answer) (workedIn (two-rules .site) (fresh (two-rules .site)) (one-rule .runs)))
-    × Rewritten (one-rule .site) (two-rules .site) (stateAfter (one-rule .site) (fresh (one-rule .site)) (one-rule .runs))
-    (stateAfter (two-rules .site) (fresh (two-rules .site)) (one-rule .runs))
-unfolding SameShifts
-alike = same-shifts (one-rule .site) (two-rules .site) (fresh (one-rule .site)) (fresh (two-rules .site)) begun-alike (one-rule .runs)
 
 -- The events of a list; whether the records of two lists stand in each other, and whether the kinds of all but rules are the same.
 abbrev events : History → List ℕ

@@ -2,18 +2,24 @@
 use Prim.Native.Nat.{ℕ}
 use native.Mathlib.Omega.{arith}
 use mathlib.Core.Path.{_≡_, refl}
-use mathlib.Core.List.{List, [], _∷_, flatten}
+use mathlib.Core.List.{List, [], _∷_, map, flatten}
+use mathlib.Core.Bool.{_||_}
 use lib.Dec.{eqb}
 use lib.IntN.{pos}
 use Rattle.model.specs.Numbers.{NONE, NEVER, UNLIMITED}
-use Rattle.model.specs.Site.{credentialId}
+use Rattle.octets.specs.Octets.{put}
+use Rattle.model.specs.Site.{credentialId, records}
 use Rattle.model.specs.State.{Panel, panel, sites, find, fresh}
 use Rattle.model.specs.Entry.{entryOf}
+use Rattle.model.specs.Checks.{timeFits}
 use Rattle.model.specs.Step.{situationOf}
+use Rattle.model.specs.Calls.{checkSite}
+use Rattle.model.specs.Lists.{Worked, workedIn}
 use Rattle.model.specs.Tally.{standing, tallyOf, countOf}
 use Rattle.model.specs.Part.{SelfContained, partAnswers, partState}
 use Rattle.model.specs.Earned.{FittingRule, Earned}
-use Rattle.model.specs.Demands.{Count, Isolation, GrantEarned}
+use Rattle.model.specs.Shifts.{isShift, followingDays, untilMidnight, sinceMidnight, standsHalved, standsWhole, Halved, Rewritten}
+use Rattle.model.specs.Demands.{Count, Isolation, GrantEarned, ShiftHalves, SameShifts, FreshShifts, AcceptedShifts}
 use Rattle.model.proofs.Open.{definitions}
 use Rattle.model.proofs.Build.{point, credential, card, rule, read, run, examples}
 use Rattle.model.proofs.Parts.{part, nothing, parts}
@@ -21,6 +27,9 @@ use Rattle.model.proofs.Applied.{hall, west, east, both-wings, west-alo
 use Rattle.model.proofs.Counted.{count-is-tally}
 use Rattle.model.proofs.Isolation.{isolation}
 use Rattle.model.proofs.Granted.{grant-earned}
+use Rattle.model.proofs.Shifts.{shift-halves}
+use Rattle.model.proofs.SameShifts.{same-shifts, fresh-shifts}
+use Rattle.model.proofs.AcceptedShifts.{accepted-shifts}
 
 -- The count of zone 9 in the hall.
 pub hall-counted : pos (countOf 9 hall) ≡ standing (tallyOf 9 hall)
@@ -59,3 +68,44 @@ door-earned = grant-earned (flatten ruled-door) (fresh (flatten ruled-door)) (ru
 pub door-rule : FittingRule (situationOf door-panel (entryOf (read 2 600 55)) (find 2 2 door-panel)) (sites door-panel) (entryOf (read 2 600 55))
 unfolding definitions examples ruled-door door-panel Earned
 door-rule = door-earned .authorized refl .fitting-rule refl
+
+-- A shift at that door, from Monday 22:00 to Tuesday 6:00, and the site with it, and with its halves in other places.
+unfoldable pub night : List ℕ
+night = rule 9 1 2 1320 360
+
+unfoldable pub one-rule : List ℕ
+one-rule = flatten (night ∷ point 2 0 0 1 NONE NONE ∷ credential 5 NEVER UNLIMITED 9 ∷ card 5 55 ∷ [])
+
+unfoldable pub two-rules : List ℕ
+two-rules =
+    flatten (sinceMidnight night ∷ point 2 0 0 1 NONE NONE ∷ credential 5 NEVER UNLIMITED 9 ∷ card 5 55 ∷ untilMidnight night ∷ [])
+
+-- One name that opens them, and the definitions of Shifts.
+unfoldable shifts : Unit {0}
+unfolding definitions examples put isShift followingDays untilMidnight sinceMidnight standsHalved standsWhole night one-rule two-rules
+shifts = tt
+
+-- It fits exactly when one of its halves does.
+pub night-fits : (time : ℕ) → timeFits time night ≡ timeFits time (untilMidnight night) || timeFits time (sinceMidnight night)
+unfolding shifts ShiftHalves
+night-fits = shift-halves night refl refl .0
+
+-- The two sites get the same number, and start alike from fresh.
+pub halved : Halved (records one-rule) (records two-rules)
+unfolding shifts
+halved = record { others = refl; halved = refl; whole = refl }
+
+pub shifts-accepted : checkSite one-rule ≡ checkSite two-rules
+unfolding shifts AcceptedShifts
+shifts-accepted = accepted-shifts one-rule two-rules refl refl halved
+
+pub shifts-begun : Rewritten one-rule two-rules (fresh one-rule) (fresh two-rules)
+unfolding shifts FreshShifts
+shifts-begun = fresh-shifts one-rule two-rules refl refl halved
+
+-- So the card is answered alike, on Monday at 22:00 and on Tuesday at 5:59.
+pub shifts-alike :
+    map (λ (w : Worked). w .answer) (workedIn one-rule (fresh one-rule) (run (read 2 79200 55 ∷ read 2 107940 55 ∷ []) ∷ []))
+    ≡ map (λ (w : Worked). w .answer) (workedIn two-rules (fresh two-rules) (run (read 2 79200 55 ∷ read 2 107940 55 ∷ []) ∷ []))
+unfolding SameShifts
+shifts-alike = same-shifts one-rule two-rules (fresh one-rule) (fresh two-rules) shifts-begun (run (read 2 79200 55 ∷ read 2 107940 55 ∷ []) ∷ []) .1

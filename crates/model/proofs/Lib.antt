@@ -21,6 +21,7 @@ pub mod WellStep
 pub mod KeptWell
 pub mod Shifts
 pub mod SameShifts
+pub mod AcceptedShifts
 pub mod Untouched
 pub mod Granted
 pub mod Instances

@@ -31,7 +31,7 @@ use Rattle.model.proofs.Flat.{sites-panel, freshPanel, only-fresh, pane
 use Rattle.model.proofs.Runs.{site-accepted, workedAt, list-panel, list-worked}
 use Rattle.model.proofs.Border.{kind-at}
 use Rattle.model.proofs.KeptWell.{runEntries, state-taken, taken-state, list-well, fresh-taken}
-use Rattle.model.proofs.Shifts.{Like, until-like, since-like, fits-halves, shift-rule}
+use Rattle.model.proofs.Shifts.{whole-rule, Like, until-like, since-like, fits-halves, shift-rule}
 
 -- ── tests of records that a shift passes exactly when one of its halves does
 
@@ -44,9 +44,10 @@ any-stands q s p (t ∷ ts) h = go (same s t) refl h (any-stands q s p ts)
     go true e h ih = rw (sym (same-eq s t .0 e), p)
     go false e h ih = rw (ih h) (or-true (q t))
 
-module _ (q : List ℕ → Bool) (by-halves : (s : List ℕ) → inRange s ≡ true → isShift s ≡ true → q s ≡ q (untilMidnight s) || q (sinceMidnight s)) where
+-- The test q is such a test of the records that pass the test ok.
+module _ (ok q : List ℕ → Bool) (by-halves : (s : List ℕ) → ok s ≡ true → isShift s ≡ true → q s ≡ q (untilMidnight s) || q (sinceMidnight s)) where
   -- What passes in the one site passes in the other, as it is or by a half.
-  one-halved : (ts : List (List ℕ)) (s : List ℕ) → inRange s ≡ true → standsHalved ts s ≡ true → q s ≡ true → any q ts ≡ true
+  one-halved : (ts : List (List ℕ)) (s : List ℕ) → ok s ≡ true → standsHalved ts s ≡ true → q s ≡ true → any q ts ≡ true
   unfolding standsHalved
   one-halved ts s r h p = go (stands ts s) refl h
     where
@@ -63,23 +64,23 @@ module _ (q : List ℕ → Bool) (by-halves : (s : List ℕ) → inRange s ≡ t
           halves (q (untilMidnight s)) (q (sinceMidnight s)) refl refl (sym (by-halves s r i) ∙ p) (and-right (isShift s) (stands ts (untilMidnight s)) both)
           (and-right (isShift s && stands ts (untilMidnight s)) (stands ts (sinceMidnight s)) h)
 
-  any-halved : (ts ss : List (List ℕ)) → all inRange ss ≡ true → all (standsHalved ts) ss ≡ true → any q ss ≡ true → any q ts ≡ true
+  any-halved : (ts ss : List (List ℕ)) → all ok ss ≡ true → all (standsHalved ts) ss ≡ true → any q ss ≡ true → any q ts ≡ true
   any-halved ts [] r h p = absurd (false≢true p)
   any-halved ts (s ∷ ss) r h p =
-      go (q s) refl p (any-halved ts ss (and-right (inRange s) (all inRange ss) r) (and-right (standsHalved ts s) (all (standsHalved ts) ss) h))
+      go (q s) refl p (any-halved ts ss (and-right (ok s) (all ok ss) r) (and-right (standsHalved ts s) (all (standsHalved ts) ss) h))
     where
       go : (c : Bool) → q s ≡ c → c || any q ss ≡ true → (any q ss ≡ true → any q ts ≡ true) → any q ts ≡ true
-      go true e p ih = one-halved ts s (and-left (inRange s) (all inRange ss) r) (and-left (standsHalved ts s) (all (standsHalved ts) ss) h) e
+      go true e p ih = one-halved ts s (and-left (ok s) (all ok ss) r) (and-left (standsHalved ts s) (all (standsHalved ts) ss) h) e
       go false e p ih = ih p
 
   -- And back: a half passes only where its shift does.
-  half-passes : (t : List ℕ) → q t ≡ true → (ss : List (List ℕ)) → all inRange ss ≡ true → any (isHalf t) ss ≡ true → any q ss ≡ true
+  half-passes : (t : List ℕ) → q t ≡ true → (ss : List (List ℕ)) → all ok ss ≡ true → any (isHalf t) ss ≡ true → any q ss ≡ true
   half-passes t p [] r h = h
   half-passes t p (s ∷ ss) r h =
-      go (isShift s) (same (untilMidnight s) t) (same (sinceMidnight s) t) refl refl refl h (half-passes t p ss (and-right (inRange s) (all inRange ss) r))
+      go (isShift s) (same (untilMidnight s) t) (same (sinceMidnight s) t) refl refl refl h (half-passes t p ss (and-right (ok s) (all ok ss) r))
     where
       whole : isShift s ≡ true → q (untilMidnight s) || q (sinceMidnight s) ≡ true → q s || any q ss ≡ true
-      whole i o = rw (by-halves s (and-left (inRange s) (all inRange ss) r) i ∙ o)
+      whole i o = rw (by-halves s (and-left (ok s) (all ok ss) r) i ∙ o)
 
       rest : any q ss ≡ true → q s || any q ss ≡ true
       rest h = rw h (or-true (q s))
@@ -91,7 +92,7 @@ module _ (q : List ℕ → Bool) (by-halves : (s : List ℕ) → inRange s ≡ t
       go true false true i u v h ih = whole i (rw (same-eq (sinceMidnight s) t .0 v, p) (or-true (q (untilMidnight s))))
       go true false false i u v h ih = rest (ih h)
 
-  any-whole : (ss ts : List (List ℕ)) → all inRange ss ≡ true → all (standsWhole ss) ts ≡ true → any q ts ≡ true → any q ss ≡ true
+  any-whole : (ss ts : List (List ℕ)) → all ok ss ≡ true → all (standsWhole ss) ts ≡ true → any q ts ≡ true → any q ss ≡ true
   unfolding standsWhole
   any-whole ss [] r h p = absurd (false≢true p)
   any-whole ss (t ∷ ts) r h p =
@@ -106,7 +107,7 @@ module _ (q : List ℕ → Bool) (by-halves : (s : List ℕ) → inRange s ≡ t
       go false e p h ih = ih p
 
   -- So the same tests are passed in both.
-  any-same : (ss ts : List (List ℕ)) → all inRange ss ≡ true → Halved ss ts → any q ss ≡ any q ts
+  pub any-same : (ss ts : List (List ℕ)) → all ok ss ≡ true → Halved ss ts → any q ss ≡ any q ts
   any-same ss ts r h = both (any q ss) (any q ts) (any-halved ts ss r (h .halved)) (any-whole ss ts r (h .whole))
     where
       both : (a b : Bool) → (a ≡ true → b ≡ true) → (b ≡ true → a ≡ true) → a ≡ b
@@ -135,10 +136,10 @@ module _ (first second : RightsId) (point : PointId) (to : ZoneId) (time : ℕ) 
 
   module _ (sign : Bool → Bool) (s : List ℕ) (r : inRange s ≡ true) (i : isShift s ≡ true) where
     until : Like s (untilMidnight s)
-    until = until-like s (shift-rule s r i)
+    until = until-like s (whole-rule s (shift-rule s r i))
 
     since : Like s (sinceMidnight s)
-    since = since-like s (shift-rule s r i)
+    since = since-like s (whole-rule s (shift-rule s r i))
 
     located-halves : located sign s ≡ located sign (untilMidnight s) || located sign (sinceMidnight s)
     located-halves =
@@ -175,15 +176,15 @@ module _ (first second : RightsId) (point : PointId) (to : ZoneId) (time : ℕ) 
   unfolding verdict
   verdict-same ss ts r h =
       λ i. record {
-        «negative_fits» = any-same (timely (λ c. c)) (timely-halves (λ c. c)) ss ts r h i;
-        «positive_fits» = any-same (timely not) (timely-halves not) ss ts r h i;
-        «positive_located» = any-same (located not) (located-halves not) ss ts r h i;
+        «negative_fits» = any-same inRange (timely (λ c. c)) (timely-halves (λ c. c)) ss ts r h i;
+        «positive_fits» = any-same inRange (timely not) (timely-halves not) ss ts r h i;
+        «positive_located» = any-same inRange (located not) (located-halves not) ss ts r h i;
       }
 
 -- ── panels that differ in their rules alone, and whose rules say the same
 
 -- All records but rules.
-abbrev notRule : List ℕ → Bool
+abbrev pub notRule : List ℕ → Bool
 notRule s = not (isRule s)
 
 record ButRules (ps qs : Panel) : Type 0 where
@@ -192,7 +193,7 @@ record ButRules (ps qs : Panel) : Type 0 where
       verdict first second point to time (sites ps) ≡ verdict first second point to time (sites qs)
 
 -- What is of another kind is found among the others.
-other-kind : (k : ℕ) → eqb k n.access-rule ≡ false → (s : List ℕ) → kind s ≡ k → notRule s ≡ true
+pub other-kind : (k : ℕ) → eqb k n.access-rule ≡ false → (s : List ℕ) → kind s ≡ k → notRule s ≡ true
 other-kind k h s e = rw (e, h)
 
 module _ (ps : Panel) where

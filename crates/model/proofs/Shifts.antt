@@ -57,7 +57,7 @@ unfolding ruleInRange
 range-rule s r = rw (r .flags-in, r .days-in, r .place-in, r .from-in, r .to-in, r .spare-in)
 
 -- Its spare bytes are there.
-whole-rule : (s : List ℕ) → RuleRange s → 32 ≤ length s
+pub whole-rule : (s : List ℕ) → RuleRange s → 32 ≤ length s
 unfolding clear
 whole-rule s r =
     let e : length (take 16 (drop 16 s)) ≡ 16 = ap length (same-eq (take 16 (drop 16 s)) (zeros 16) .0 (r .spare-in)) in
@@ -161,11 +161,8 @@ minute-below : (time : ℕ) → minuteOfDay time < 1440
 unfolding minuteOfDay
 minute-below time = omega arith
 
-module _ (s : List ℕ) (r : RuleRange s) where
-  long : 32 ≤ length s
-  long = whole-rule s r
-
-  -- The fields of the halves.
+-- The fields of the halves.
+module _ (s : List ℕ) (long : 32 ≤ length s) where
   pub until-like : Like s (untilMidnight s)
   unfolding untilMidnight
   until-like = minutes-like s long 14 n.minutes-of-day (omega arith) (omega arith)
@@ -180,68 +177,72 @@ module _ (s : List ℕ) (r : RuleRange s) where
   unfolding sinceMidnight
   since-like = like-trans s later (sinceMidnight s) (days-like s long (followingDays (weekdays s))) (minutes-like later long-later 12 0 (omega arith) (omega arith))
 
-  until-days : weekdays (untilMidnight s) ≡ weekdays s
+  pub until-days : weekdays (untilMidnight s) ≡ weekdays s
   unfolding untilMidnight
   until-days = get-put-before 14 2 n.minutes-of-day 3 1 s (omega (arith, long)) (omega arith)
 
-  until-from : fromMinute (untilMidnight s) ≡ fromMinute s
+  pub until-from : fromMinute (untilMidnight s) ≡ fromMinute s
   unfolding untilMidnight
   until-from = get-put-before 14 2 n.minutes-of-day 12 2 s (omega (arith, long)) (omega arith)
 
-  until-to : toMinute (untilMidnight s) ≡ n.minutes-of-day
+  pub until-to : toMinute (untilMidnight s) ≡ n.minutes-of-day
   unfolding untilMidnight
   until-to = get-put-same 14 1 n.minutes-of-day s (omega (arith, long))
 
-  since-days : weekdays (sinceMidnight s) ≡ followingDays (weekdays s)
+  pub since-days : weekdays (sinceMidnight s) ≡ followingDays (weekdays s)
   unfolding sinceMidnight
   since-days =
       get-put-before 12 2 0 3 1 later (omega (arith, long-later)) (omega arith) ∙ get-put-same 3 0 (followingDays (weekdays s)) s (omega (arith, long))
 
-  since-from : fromMinute (sinceMidnight s) ≡ 0
+  pub since-from : fromMinute (sinceMidnight s) ≡ 0
   unfolding sinceMidnight
   since-from = get-put-same 12 1 0 later (omega (arith, long-later))
 
-  since-to : toMinute (sinceMidnight s) ≡ toMinute s
+  pub since-to : toMinute (sinceMidnight s) ≡ toMinute s
   unfolding sinceMidnight
   since-to =
       get-put-after 12 2 0 14 2 later (omega (arith, long-later)) (omega arith)
       ∙ get-put-after 3 1 (followingDays (weekdays s)) 14 2 s (omega (arith, long)) (omega arith)
 
-  -- They are in range, and cross no midnight.
-  following-in : ltb (followingDays (weekdays s)) 128 ≡ true
-  unfolding followingDays
-  following-in = let d = ltb-true (weekdays s) 128 (r .days-in) in lt-ltb (weekdays s % 64 * 2 + weekdays s / 64) 128 (omega arith)
-
-  until-range : RuleRange (untilMidnight s)
-  until-range = like-range s (untilMidnight s) until-like r (rw until-days (r .days-in)) (rw until-from (r .from-in)) (rw until-to refl)
-
-  since-range : RuleRange (sinceMidnight s)
-  since-range = like-range s (sinceMidnight s) since-like r (rw since-days following-in) (rw since-from refl) (rw since-to (r .to-in))
-
-  until-within : crossesMidnight (untilMidnight s) ≡ false
-  unfolding crossesMidnight
-  until-within = rw (until-from, until-to) (le-ltb n.minutes-of-day (fromMinute s) (leb-true _ _ (r .from-in)))
-
   since-within : crossesMidnight (sinceMidnight s) ≡ false
   unfolding crossesMidnight
   since-within = rw (since-from, since-to) (le-ltb (toMinute s) 0 (omega arith))
+
+-- They are in range, and cross no midnight.
+pub following-in : (d : ℕ) → ltb d 128 ≡ true → ltb (followingDays d) 128 ≡ true
+unfolding followingDays
+following-in d h = let l = ltb-true d 128 h in lt-ltb (d % 64 * 2 + d / 64) 128 (omega arith)
+
+module _ (s : List ℕ) (r : RuleRange s) where
+  abbrev long : 32 ≤ length s
+  long = whole-rule s r
+
+  until-range : RuleRange (untilMidnight s)
+  until-range = like-range s (untilMidnight s) (until-like s long) r (rw (until-days s long) (r .days-in)) (rw (until-from s long) (r .from-in)) (rw (until-to s long) refl)
+
+  since-range : RuleRange (sinceMidnight s)
+  since-range = like-range s (sinceMidnight s) (since-like s long) r (rw (since-days s long) (following-in (weekdays s) (r .days-in))) (rw (since-from s long) refl) (rw (since-to s long) (r .to-in))
+
+  until-within : crossesMidnight (untilMidnight s) ≡ false
+  unfolding crossesMidnight
+  until-within = rw ((until-from s long), (until-to s long)) (le-ltb n.minutes-of-day (fromMinute s) (leb-true _ _ (r .from-in)))
 
   -- The shift fits exactly when one of them does.
   until-fits : (time : ℕ) → timeFits time (untilMidnight s) ≡ always s || bit (weekdays s) (weekday time) && leb (fromMinute s) (minuteOfDay time)
   unfolding timeFits fitsWithinDay
   until-fits time =
-      rw (until-like .same-flags, until-within, until-days, until-from, until-to, lt-ltb (minuteOfDay time) n.minutes-of-day (minute-below time))
+      rw ((until-like s long) .same-flags, until-within, (until-days s long), (until-from s long), (until-to s long), lt-ltb (minuteOfDay time) n.minutes-of-day (minute-below time))
       (simp and-true)
 
   since-fits : (time : ℕ) → timeFits time (sinceMidnight s) ≡ always s || bit (weekdays s) (weekdayBefore (weekday time)) && ltb (minuteOfDay time) (toMinute s)
   unfolding timeFits fitsWithinDay
   since-fits time =
       rw (
-        since-like .same-flags,
-        since-within,
-        since-days,
-        since-from,
-        since-to,
+        (since-like s long) .same-flags,
+        (since-within s long),
+        (since-days s long),
+        (since-from s long),
+        (since-to s long),
         next-bit (weekdays s) (weekday time) (ltb-true (weekdays s) 128 (r .days-in)) (weekday-below time),
         le-leb 0 (minuteOfDay time) (omega arith),
       )
@@ -277,6 +278,6 @@ unfolding ShiftHalves isShift
 shift-halves s h i =
     let r = shift-rule s h i in (
       fits-halves s r (and-right (isRule s) (crossesMidnight s) i),
-      like-in-range s (untilMidnight s) h i (until-like s r) (until-range s r) (until-within s r),
-      like-in-range s (sinceMidnight s) h i (since-like s r) (since-range s r) (since-within s r),
+      like-in-range s (untilMidnight s) h i (until-like s (whole-rule s r)) (until-range s r) (until-within s r),
+      like-in-range s (sinceMidnight s) h i (since-like s (whole-rule s r)) (since-range s r) (since-within s (whole-rule s r)),
     )

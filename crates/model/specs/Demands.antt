@@ -22,7 +22,7 @@ use Rattle.model.specs.Part.{Part, SelfContained, partRecords, partEntri
 use Rattle.model.specs.Earned.{Earned}
 use Rattle.model.specs.Shifts.{isShift, untilMidnight, sinceMidnight, Halved, Rewritten}
 use Rattle.model.specs.declared.Returned.{Returned}
-use Rattle.model.specs.declared.Returned.the-variants.{WorkedThrough, StateForm}
+use Rattle.model.specs.declared.Returned.the-variants.{WorkedThrough, SiteLength, StateForm}
 use Rattle.model.specs.declared.Operation.the-variants.{Factor}
 
 -- Demand 3, the count: "every zone's count is T less the smaller of zero and T's lowest standing".
@@ -98,3 +98,12 @@ unfoldable pub FreshShifts : Type 0
 FreshShifts =
     (site other : List ℕ) → checkSite site ≡ WorkedThrough → checkSite other ≡ WorkedThrough → Halved (records site) (records other) →
     Rewritten site other (fresh site) (fresh other)
+
+-- And the check of one returns what that of the other does, unless one of them is turned back for its length.
+abbrev pub notSiteLength : Returned → Bool
+notSiteLength r = not (eqb (number r) (number SiteLength))
+
+unfoldable pub AcceptedShifts : Type 0
+AcceptedShifts =
+    (site other : List ℕ) → notSiteLength (checkSite site) ≡ true → notSiteLength (checkSite other) ≡ true → Halved (records site) (records other) →
+    checkSite site ≡ checkSite other

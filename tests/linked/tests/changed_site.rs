@@ -3,7 +3,9 @@
 mod library;
 
 use reference::build::{journal, Credential, EntryFields, Factor, Point, Record, Zone, FORMAT};
+use reference::generate::clock::base_time;
 use reference::generate::{journal as random_journal, site as random_site, Random};
+use reference::settings;
 use std::fs;
 use std::path::PathBuf;
 use std::process::{Command, Output};
@@ -313,6 +315,68 @@ fn carried_over_a_shuffled_site_answers_alike() {
         let expected = answers(&site, &mut state, &second);
         assert_eq!(answers(&new_site, &mut new_state, &second), expected);
     }
+}
+
+/// Whether a record is a rule whose hours run past midnight.
+fn is_shift(record: &[u8]) -> bool {
+    let minute = |at: usize| u16::from_be_bytes([record[at], record[at + 1]]);
+    record[KIND] == ACCESS_RULE && minute(RULE_FROM) > minute(RULE_TO)
+}
+
+/// A shift as the two rules that it had to be written as: to the end of the days on which it begins, and from the start of the days after them.
+fn halves(shift: &[u8]) -> [Vec<u8>; 2] {
+    let [mut until, mut since] = [shift.to_vec(), shift.to_vec()];
+    until[RULE_TO..][..2].copy_from_slice(&(MINUTES_OF_DAY as u16).to_be_bytes());
+    since[RULE_FROM..][..2].fill(0);
+    let days = shift[RULE_DAYS];
+    since[RULE_DAYS] = (days << 1 | days >> 6) & 0x7F;
+    [until, since]
+}
+
+/// The site with the first half of each shift in its place and all second halves at the end.
+fn with_halves(site: &[u8]) -> Vec<u8> {
+    let (mut records, mut seconds) = (Vec::new(), Vec::new());
+    for record in site.chunks_exact(RECORD_SIZE) {
+        if !is_shift(record) {
+            records.push(record.to_vec());
+            continue;
+        }
+        let [until, since] = halves(record);
+        records.push(until);
+        seconds.push(since);
+    }
+    [records, seconds].concat().concat()
+}
+
+/// Pairs of rules become shifts under a live state: in place of the first of a pair, with the second as it was, a copy of the shift in its place
+/// or, since it stands at the end, nothing.
+#[test]
+fn in_place_pairs_of_rules_become_shifts() {
+    let mut random = settings::random();
+    let mut decided = 0;
+    for _ in 0..20_000 {
+        let base = base_time(&mut random);
+        let site = random_site(&mut random, base);
+        let pairs = with_halves(&site);
+        let [first, second] = [0; 2].map(|_| random_journal(&mut random, base, &site, 20));
+        let mut live = fresh(&pairs);
+        answers(&pairs, &mut live, &first);
+        let mut state = live.clone();
+        let expected = answers(&pairs, &mut state, &second);
+
+        let shifts = site.chunks_exact(RECORD_SIZE).filter(|r| is_shift(r));
+        let copies = shifts.collect::<Vec<_>>().concat();
+        for end in [&pairs[site.len()..], &copies, &[]] {
+            let new_site = [&site, end].concat();
+            let mut new_state = live[..new_site.len()].to_vec();
+            assert_eq!(answers(&new_site, &mut new_state, &second), expected);
+            assert_eq!(new_state, state[..new_site.len()]);
+        }
+        let first_halves = &pairs[..site.len()];
+        let others = answers(first_halves, &mut live[..site.len()], &second);
+        decided += usize::from(others != expected);
+    }
+    assert!(decided > 200, "the second halves decided {decided} times");
 }
 
 #[test]

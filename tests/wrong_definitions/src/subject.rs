@@ -44,6 +44,7 @@ impl Subject {
             Subject::Model => &[
                 "model/specs/Part.antt",
                 "model/specs/Earned.antt",
+                "model/specs/Shifts.antt",
                 "model/specs/Demands.antt",
             ],
             Subject::Wiegand => &["wiegand/specs/Theorems.antt"],
