@@ -9,6 +9,7 @@ use Rattle.model.specs.Site.{records, kind}
 use Rattle.model.specs.Accept.{inRange}
 use Rattle.model.specs.State.{Pair, panel, fresh}
 use Rattle.model.specs.Checks.{timeFits}
+use Rattle.model.specs.Calls.{number, checkSite}
 use Rattle.model.specs.Lists.{Worked, History, ended, worked, workedIn, eventIn}
 use Rattle.model.specs.Shifts.{isShift, followingDays, untilMidnight, sinceMidnight, standsHalved, standsWhole, Halved, others}
 use Rattle.model.proofs.Build.{history, cut, examples}
@@ -63,7 +64,7 @@ pub unmet : Unmet
 unfolding shifts night
 unmet = record { spare-day = refl; past-end = refl; within-day = refl }
 
--- ── the premises of `SameShifts`
+-- ── the premises of `SameShifts` and `AcceptedShifts`
 
 -- Point 2 in AUTHORIZE and credential 5 with rights 9.
 abbrev office : List (List ℕ)
@@ -100,8 +101,8 @@ stood g h = all (standsHalved (records (h .site))) (records (g .site)) ∷ all (
 abbrev kinds : History → List ℕ
 kinds h = map (λ (x : Pair). kind (x .0)) (others (panel (h .site) (ended h)))
 
--- Without a premise: the first half alone; the second half on Friday; a third rule, which fits always; the halves with the records of the office in another sequence;
--- the same site with a state in which the credential is disabled.
+-- Without a premise: the first half alone; the second half on Friday; a third rule, which fits always; the records of the office in another
+-- sequence; below, a state in which the credential is disabled.
 unfoldable first-alone : History
 unfolding shifts friday
 first-alone = history (office ++ (friday ∷ [])) readings refl
@@ -127,6 +128,8 @@ pub record Differing : Type 0 where
   states-differing :
       map (λ (w : Worked). eventIn (w .answer)) (workedIn (one-rule .site) (put 82 1 1 (fresh (one-rule .site))) (one-rule .runs))
       ≡ 158 ∷ 158 ∷ 158 ∷ 158 ∷ 158 ∷ []
+  -- Of `AcceptedShifts`: the same records, and a byte behind them.
+  stray-byte : map (λ s. number (checkSite s)) (one-rule .site ∷ (one-rule .site ++ (0 ∷ [])) ∷ []) ≡ 0 ∷ 1 ∷ []
 
 pub differing : Differing
 unfolding shifts night friday saturday one-rule two-rules first-alone wrong-day third-rule turned-round
@@ -138,4 +141,5 @@ differing =
       rule-added = (refl, refl);
       others-moved = (refl, refl);
       states-differing = refl;
+      stray-byte = refl;
     }

@@ -140,17 +140,25 @@ low-bit d i h =
     let e : suc (5 - i) + i ≡ 6 = omega arith in
     rw e at (bit-mod (5 - i) i d)
 
+-- Before Monday is Sunday; before any other day, the one before it.
+before-monday : weekdayBefore 0 ≡ 6
+unfolding weekdayBefore
+before-monday = refl
+
+before-later : (i : ℕ) → weekdayBefore (suc i) ≡ i
+unfolding weekdayBefore
+before-later i = rw (eqb·suc-zero i) (omega arith)
+
 -- The bit of a day among the following days is the bit of the day before.
 next-bit : (d i : ℕ) → d < 128 → i < 7 → bit (followingDays d) i ≡ bit d (weekdayBefore i)
-unfolding followingDays weekdayBefore
+unfolding followingDays
 next-bit d zero h k =
-    let e : (d % 64 * 2 + d / 64) / 1 % 2 ≡ d / 64 % 2 = omega arith in
-    rw e
+    let monday : followingDays d / 1 % 2 ≡ d / 64 % 2 = omega arith in
+    rw (before-monday, monday)
 next-bit d (suc i) h k =
-    let half : (d % 64 * 2 + d / 64) / 2 ≡ d % 64 = omega arith in
-    let up : bit (d % 64) i ≡ bit (d % 64 * 2 + d / 64) (suc i) = rw (half, add-one i) at (bit-above (d % 64 * 2 + d / 64) i 1) in
-    let before : suc i - 1 ≡ i = omega arith in
-    rw (eqb·suc-zero i, before) (sym up ∙ low-bit d i (omega arith))
+    let half : followingDays d / 2 ≡ d % 64 = omega arith in
+    let up : bit (d % 64) i ≡ bit (followingDays d) (suc i) = rw (half, add-one i) at (bit-above (followingDays d) i 1) in
+    rw (before-later i) (sym up ∙ low-bit d i (omega arith))
 
 -- A day has seven weekdays and 1,440 minutes.
 weekday-below : (time : ℕ) → weekday time < 7
@@ -211,7 +219,7 @@ module _ (s : List ℕ) (long : 32 ≤ length s) where
 -- They are in range, and cross no midnight.
 pub following-in : (d : ℕ) → ltb d 128 ≡ true → ltb (followingDays d) 128 ≡ true
 unfolding followingDays
-following-in d h = let l = ltb-true d 128 h in lt-ltb (d % 64 * 2 + d / 64) 128 (omega arith)
+following-in d h = let l = ltb-true d 128 h in lt-ltb (followingDays d) 128 (omega arith)
 
 module _ (s : List ℕ) (r : RuleRange s) where
   abbrev long : 32 ≤ length s
