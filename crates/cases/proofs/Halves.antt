@@ -12,6 +12,8 @@ use Rattle.model.specs.Checks.{timeFits}
 use Rattle.model.specs.Calls.{number, checkSite}
 use Rattle.model.specs.Lists.{Worked, History, ended, worked, workedIn, eventIn}
 use Rattle.model.specs.Shifts.{isShift, followingDays, untilMidnight, sinceMidnight, standsHalved, standsWhole, Halved, others}
+use Rattle.model.specs.Demands.{notSiteLength}
+use Rattle.model.specs.declared.Returned.the-variants.{WorkedThrough, SiteLength, SiteField, SiteTwice, SiteMissing, StateLength, StateForm, JournalLength, AnswersLength}
 use Rattle.model.proofs.Build.{history, cut, examples}
 use Rattle.cases.proofs.Change.{with-fields}
 use Rattle.cases.proofs.Fields.{mode, weekdays, from-minute, to-minute, first-rights}
@@ -128,7 +130,10 @@ pub record Differing : Type 0 where
   states-differing :
       map (λ (w : Worked). eventIn (w .answer)) (workedIn (one-rule .site) (put 82 1 1 (fresh (one-rule .site))) (one-rule .runs))
       ≡ 158 ∷ 158 ∷ 158 ∷ 158 ∷ 158 ∷ []
-  -- Of `AcceptedShifts`: the same records, and a byte behind them.
+  -- Of `AcceptedShifts`: the number 1 alone is asked for; the same records, and a byte behind them.
+  asked :
+      map notSiteLength (WorkedThrough ∷ SiteLength ∷ SiteField ∷ SiteTwice ∷ SiteMissing ∷ StateLength ∷ StateForm ∷ JournalLength ∷ AnswersLength ∷ [])
+      ≡ true ∷ false ∷ true ∷ true ∷ true ∷ true ∷ true ∷ true ∷ true ∷ []
   stray-byte : map (λ s. number (checkSite s)) (one-rule .site ∷ (one-rule .site ++ (0 ∷ [])) ∷ []) ≡ 0 ∷ 1 ∷ []
 
 pub differing : Differing
@@ -141,5 +146,6 @@ differing =
       rule-added = (refl, refl);
       others-moved = (refl, refl);
       states-differing = refl;
+      asked = refl;
       stray-byte = refl;
     }
