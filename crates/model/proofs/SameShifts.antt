@@ -134,43 +134,37 @@ module _ (first second : RightsId) (point : PointId) (to : ZoneId) (time : ℕ) 
   abbrev timely : (Bool → Bool) → List ℕ → Bool
   timely sign s = enabledRule first second s && (sign (negative s) && locationFits point to s && timeFits time s)
 
-  module _ (sign : Bool → Bool) (s : List ℕ) (r : inRange s ≡ true) (i : isShift s ≡ true) where
-    until : Like s (untilMidnight s)
-    until = until-like s (whole-rule s (shift-rule s r i))
+  module _ (sign : Bool → Bool) (s : List ℕ) where
+    -- What is asked of its rights and its location, it passes where the shift does.
+    like-asked : (ask : Bool → Bool → Bool) (t : List ℕ) → Like s t
+        → ask (enabledRule first second t) (sign (negative t) && locationFits point to t) ≡ ask (enabledRule first second s) (sign (negative s) && locationFits point to s)
+    like-asked ask t l = rw (like-rule s t l, like-location s t l, l .same-flags)
 
-    since : Like s (sinceMidnight s)
-    since = since-like s (whole-rule s (shift-rule s r i))
+    module _ (r : inRange s ≡ true) (i : isShift s ≡ true) where
+      until : Like s (untilMidnight s)
+      until = until-like s (whole-rule s (shift-rule s r i))
 
-    located-halves : located sign s ≡ located sign (untilMidnight s) || located sign (sinceMidnight s)
-    located-halves =
-        rw (
-          like-rule s (untilMidnight s) until,
-          like-location s (untilMidnight s) until,
-          until .same-flags,
-          like-rule s (sinceMidnight s) since,
-          like-location s (sinceMidnight s) since,
-          since .same-flags,
-        )
-        (sym (or-self (located sign s)))
+      since : Like s (sinceMidnight s)
+      since = since-like s (whole-rule s (shift-rule s r i))
 
-    timely-halves : timely sign s ≡ timely sign (untilMidnight s) || timely sign (sinceMidnight s)
-    unfolding isShift
-    timely-halves =
-        rw (
-          like-rule s (untilMidnight s) until,
-          like-location s (untilMidnight s) until,
-          until .same-flags,
-          like-rule s (sinceMidnight s) since,
-          like-location s (sinceMidnight s) since,
-          since .same-flags,
-          fits-halves s (shift-rule s r i) (and-right (isRule s) (crossesMidnight s) i) time,
-        )
-        (over (enabledRule first second s) (sign (negative s) && locationFits point to s) (timeFits time (untilMidnight s)) (timeFits time (sinceMidnight s)))
-      where
-        over : (a b c d : Bool) → a && (b && (c || d)) ≡ a && (b && c) || a && (b && d)
-        over false b c d = refl
-        over true false c d = refl
-        over true true c d = refl
+      located-halves : located sign s ≡ located sign (untilMidnight s) || located sign (sinceMidnight s)
+      located-halves = rw (like-asked _&&_ (untilMidnight s) until, like-asked _&&_ (sinceMidnight s) since) (sym (or-self (located sign s)))
+
+      timely-halves : timely sign s ≡ timely sign (untilMidnight s) || timely sign (sinceMidnight s)
+      unfolding isShift
+      timely-halves =
+          let within : List ℕ → Bool → Bool → Bool = λ t a b. a && (b && timeFits time t) in
+          rw (
+            like-asked (within (untilMidnight s)) (untilMidnight s) until,
+            like-asked (within (sinceMidnight s)) (sinceMidnight s) since,
+            fits-halves s (shift-rule s r i) (and-right (isRule s) (crossesMidnight s) i) time,
+          )
+          (over (enabledRule first second s) (sign (negative s) && locationFits point to s) (timeFits time (untilMidnight s)) (timeFits time (sinceMidnight s)))
+        where
+          over : (a b c d : Bool) → a && (b && (c || d)) ≡ a && (b && c) || a && (b && d)
+          over false b c d = refl
+          over true false c d = refl
+          over true true c d = refl
 
   verdict-same : (ss ts : List (List ℕ)) → all inRange ss ≡ true → Halved ss ts → verdict first second point to time ss ≡ verdict first second point to time ts
   unfolding verdict
