@@ -4,7 +4,7 @@ use reference::build::{Credential, Factor, Point, Record, Rule, Zone};
 use reference::numbers::{
     authorization_mode, credential_disable, credential_flag, factor_disable, factor_role,
     factors_wanted, location_kind, passback_mode, point_flag, rule_flag, zone_flag, EVERY_DAY,
-    NEVER, NONE,
+    MINUTES_PER_DAY, NEVER, NONE,
 };
 
 /// The card of credential 1 in each site.
@@ -20,6 +20,7 @@ pub fn sites() -> Vec<Vec<u8>> {
         one_of_each(rule_at(location_kind::ZONE)),
         one_of_each(rule_at(location_kind::POINT)),
         one_of_each(Rule::new(1)),
+        one_of_each(shift()),
         two_factors(),
         neighbours(),
     ];
@@ -33,6 +34,17 @@ fn rule_at(location_kind: u8) -> Rule {
         location: 1,
         days: EVERY_DAY,
         from: 255,
+        to: 256,
+        ..Rule::new(1)
+    }
+}
+
+/// Hours from Sunday's end into Monday, so that they fit where the other rules' do.
+fn shift() -> Rule {
+    Rule {
+        flags: rule_flag::ENABLE | rule_flag::EVERYWHERE,
+        days: 1 << 6,
+        from: MINUTES_PER_DAY,
         to: 256,
         ..Rule::new(1)
     }
