@@ -1,5 +1,6 @@
 -- What is proved over the definitions, by `freshState` and `runJournal` themselves: each statement is a type, and proofs/ has a theorem of it. The
--- count, the part and the well-formed state are about whole lists of runs from fresh; the others about every site, state and run.
+-- count, the part and the well-formed state are about whole lists of runs from fresh, rewritten shifts about lists of runs on any state; the others
+-- about every site, state and run.
 use Prim.Native.Nat.{ℕ, suc, _/_, _<_}
 use mathlib.Core.Path.{_≡_}
 use mathlib.Core.List.{List, [], map}

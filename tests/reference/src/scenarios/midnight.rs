@@ -313,7 +313,7 @@ pub fn hours_beyond_the_day_are_refused_and_those_in_any_order_are_not(engine: E
 
 /// One rule and the two that were needed before give the same answers in each minute.
 pub fn one_shift_is_the_pair_of_rules_that_it_replaces(engine: Engine) {
-    // Of the shift from Sunday ten days have a second half twice.
+    // In ten days Sunday's shift ends twice, on the first Monday and on the second.
     for (day, next, minutes) in [(FRIDAY, SATURDAY, 480), (SUNDAY, MONDAY, 840)] {
         let one = [shift(day, EVENING, MORNING)];
         let pair = [
