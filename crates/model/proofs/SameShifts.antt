@@ -1,6 +1,6 @@
 -- Sites that differ in their shifts alone: their rules say the same, so that every list of runs from fresh is answered alike.
 use Prim.Native.Nat.{ℕ}
-use mathlib.Core.Path.{_≡_, refl, sym, _∙_, ap, ap₂}
+use mathlib.Core.Path.{_≡_, refl, sym, _∙_, ap}
 use mathlib.Core.List.{List, [], _∷_, map}
 use mathlib.Core.Bool.{Bool, true, false, not, _&&_, _||_, or-true, or-self, false≢true}
 use lib.Dec.{eqb}
@@ -10,13 +10,13 @@ use Rattle.octets.proofs.Laws.{same-eq}
 use Rattle.model.specs.Words.{if_then_else_, keep, any, all}
 use Rattle.model.specs.Numbers as n
 use Rattle.model.specs.Numbers.{NONE}
-use Rattle.model.specs.Site.{kind, instance, records, negative, isAt, findIn}
+use Rattle.model.specs.Site.{kind, records, negative, isAt, findIn}
 use Rattle.model.specs.Accept.{inRange}
 use Rattle.model.specs.State.{Panel, panel, sites, find, fresh}
 use Rattle.model.specs.Entry.{entryOf, answerBytes}
 use Rattle.model.specs.Checks.{identifying, confirming, factorFor, enabledRule, locationFits, crossesMidnight, timeFits, verdict}
 use Rattle.model.specs.Step.{entryOutcome, apply, panels, after, answers}
-use Rattle.model.specs.Lists.{Run, stateAfter, Worked}
+use Rattle.model.specs.Lists.{stateAfter, Worked}
 use Rattle.model.specs.Shifts.{isRule, isShift, untilMidnight, sinceMidnight, stands, standsHalved, isHalf, standsWhole, Halved, others, Rewritten}
 use Rattle.model.specs.Demands.{SameShifts, FreshShifts}
 use Rattle.model.specs.declared.ZoneId.{ZoneId}

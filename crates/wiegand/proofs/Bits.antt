@@ -3,14 +3,14 @@ use mathlib.Core.Path.{_≡_, refl, sym, ap, _∙_}
 use mathlib.Core.List.{List, [], _∷_, _++_}
 use mathlib.Core.Bool.{Bool, true, false}
 use Prim.Native.Nat.{ℕ, zero, suc, _+_, _*_, _/_, _%_, _^_, _<_}
-use native.Mathlib.Nat.{add-comm, zero-add, suc-add, add-mul, mul-assoc, pow-succ', mod-lt, mod-one}
-use native.Mathlib.Numerals.{one-add, add-one}
+use native.Mathlib.Nat.{zero-add, suc-add, add-mul, mul-assoc, pow-succ', mod-lt, mod-one}
+use native.Mathlib.Numerals.{one-add}
 use native.Mathlib.Omega.{arith}
 use lib.Arith.{digits-lt}
 use lib.Count.{ones, ones-cat}
 use lib.Dec.{lit<, eqb}
 use lib.ListN.{length, take, drop, length-append}
-use lib.Pow.{pow-pos, pow-add, shr-shr, high, low, mod-pow-add, field, mod-mod-pow}
+use lib.Pow.{pow-pos, pow-add, high, low, mod-pow-add}
 use lib.Seq.{take-at, drop-at}
 use Rattle.model.specs.Words.{bit, bitOf}
 use Rattle.model.proofs.Bits.{bit-above, bit-mod}
