@@ -29,7 +29,7 @@ use Rattle.model.proofs.Isolation.{isolation}
 use Rattle.model.proofs.Granted.{grant-earned}
 use Rattle.model.proofs.Shifts.{shift-halves}
 use Rattle.model.proofs.SameShifts.{same-shifts, fresh-shifts}
-use Rattle.model.proofs.AcceptedShifts.{accepted-shifts}
+use Rattle.model.proofs.ShiftsAccepted.{accepted-shifts}
 
 -- The count of zone 9 in the hall.
 pub hall-counted : pos (countOf 9 hall) ≡ standing (tallyOf 9 hall)

@@ -6,7 +6,7 @@ pub mod Applied
 pub mod Premises
 pub mod Bits
 pub mod Laws
-pub mod Agree
+pub mod SameOutcome
 pub mod RoundTrip
 pub mod Flat
 pub mod Runs
@@ -21,7 +21,7 @@ pub mod WellStep
 pub mod KeptWell
 pub mod Shifts
 pub mod SameShifts
-pub mod AcceptedShifts
+pub mod ShiftsAccepted
 pub mod Untouched
 pub mod Granted
 pub mod Instances

@@ -26,7 +26,7 @@ use Rattle.model.specs.declared.RightsId.{RightsId}
 use Rattle.model.specs.declared.Entry.{Entry}
 use Rattle.model.specs.declared.Outcome.{Outcome}
 use Rattle.model.proofs.Laws.{and-left, and-right, only, only-apply, find-only, sites-only, find-keep, sites-apply}
-use Rattle.model.proofs.Agree.{Agree, outcome-agree}
+use Rattle.model.proofs.SameOutcome.{Agree, outcome-agree}
 use Rattle.model.proofs.Flat.{sites-panel, freshPanel, only-fresh, panel-fresh}
 use Rattle.model.proofs.Runs.{site-accepted, workedAt, list-panel, list-worked}
 use Rattle.model.proofs.Border.{kind-at}
