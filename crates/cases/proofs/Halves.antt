@@ -12,7 +12,7 @@ use Rattle.model.specs.Checks.{timeFits}
 use Rattle.model.specs.Calls.{number, checkSite}
 use Rattle.model.specs.Lists.{Worked, History, ended, worked, workedIn, eventIn}
 use Rattle.model.specs.Shifts.{isShift, followingDays, untilMidnight, sinceMidnight, standsHalved, standsWhole, Halved, others}
-use Rattle.model.specs.Demands.{notSiteLength}
+use Rattle.model.specs.Demands.{returnsOther}
 use Rattle.model.specs.declared.Returned.the-variants.{WorkedThrough, SiteLength, SiteField, SiteTwice, SiteMissing, StateLength, StateForm, JournalLength, AnswersLength}
 use Rattle.model.proofs.Build.{history, cut, examples}
 use Rattle.cases.proofs.Change.{with-fields}
@@ -132,7 +132,7 @@ pub record Differing : Type 0 where
       ≡ 158 ∷ 158 ∷ 158 ∷ 158 ∷ 158 ∷ []
   -- Of `AcceptedShifts`: the number 1 alone is asked for; the same records, and a byte behind them.
   asked :
-      map notSiteLength (WorkedThrough ∷ SiteLength ∷ SiteField ∷ SiteTwice ∷ SiteMissing ∷ StateLength ∷ StateForm ∷ JournalLength ∷ AnswersLength ∷ [])
+      map (returnsOther SiteLength) (WorkedThrough ∷ SiteLength ∷ SiteField ∷ SiteTwice ∷ SiteMissing ∷ StateLength ∷ StateForm ∷ JournalLength ∷ AnswersLength ∷ [])
       ≡ true ∷ false ∷ true ∷ true ∷ true ∷ true ∷ true ∷ true ∷ true ∷ []
   stray-byte : map (λ s. number (checkSite s)) (one-rule .site ∷ (one-rule .site ++ (0 ∷ [])) ∷ []) ≡ 0 ∷ 1 ∷ []
 

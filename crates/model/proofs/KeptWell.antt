@@ -13,7 +13,7 @@ use Rattle.model.specs.State.{panel, fresh, wellFormed}
 use Rattle.model.specs.Entry.{entryOf, entries}
 use Rattle.model.specs.Calls.{isWorked, checkSite, freshReturned, freshState, checkState, runReturned, runJournal}
 use Rattle.model.specs.Lists.{Run, runOn, stateAfter, returns, History, begun, ended}
-use Rattle.model.specs.Demands.{notStateForm, WellFormed}
+use Rattle.model.specs.Demands.{returnsOther, WellFormed}
 use Rattle.model.proofs.Flat.{sites-panel, panel-fresh, length-fresh}
 use Rattle.model.proofs.Runs.{passed-check, site-accepted, worked-through, site-worked, entriesBy, entriesIn, run-panel, run-length, begun-fresh}
 use Rattle.model.proofs.Well.{well-fresh}
@@ -97,14 +97,14 @@ list-well site (r ∷ rs) state t =
     record { left = rest .left; returned = ap₂ _∷_ first (rest .returned); entered = rw (first, rest .entered) }
 
 -- None of them returns 6.
-none-state-form : (rs : List Run) → all notStateForm (map runReturns rs) ≡ true
+none-state-form : (rs : List Run) → all (returnsOther StateForm) (map runReturns rs) ≡ true
 none-state-form [] = refl
 none-state-form (r ∷ rs) =
     rw (none-state-form rs)
     (go (not (eqb (length (r .journal) % n.entry-size) 0) || ltb n.largest-journal (length (r .journal)))
     (not (eqb (length (r .answers)) (length (r .journal) / n.entry-size * n.answer-size))))
   where
-    go : (a b : Bool) → notStateForm (if a then JournalLength else if b then AnswersLength else WorkedThrough) && true ≡ true
+    go : (a b : Bool) → returnsOther StateForm (if a then JournalLength else if b then AnswersLength else WorkedThrough) && true ≡ true
     go true b = refl
     go false true = refl
     go false false = refl

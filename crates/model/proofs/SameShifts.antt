@@ -2,7 +2,7 @@
 use Prim.Native.Nat.{ℕ}
 use mathlib.Core.Path.{_≡_, refl, sym, _∙_, ap}
 use mathlib.Core.List.{List, [], _∷_, map}
-use mathlib.Core.Bool.{Bool, true, false, not, _&&_, _||_, or-true, or-self, false≢true}
+use mathlib.Core.Bool.{Bool, true, false, not, _&&_, _||_, or-true, or-self, and-or-distrib-left, false≢true}
 use lib.Dec.{eqb}
 use borrow.Author.Tests.{eqb-true}
 use Rattle.octets.specs.Octets.{same}
@@ -159,12 +159,8 @@ module _ (first second : RightsId) (point : PointId) (to : ZoneId) (time : ℕ) 
             like-asked (within (sinceMidnight s)) (sinceMidnight s) since,
             fits-halves s (shift-rule s r i) (and-right (isRule s) (crossesMidnight s) i) time,
           )
-          (over (enabledRule first second s) (sign (negative s) && locationFits point to s) (timeFits time (untilMidnight s)) (timeFits time (sinceMidnight s)))
-        where
-          over : (a b c d : Bool) → a && (b && (c || d)) ≡ a && (b && c) || a && (b && d)
-          over false b c d = refl
-          over true false c d = refl
-          over true true c d = refl
+          (rw (and-or-distrib-left (sign (negative s) && locationFits point to s) (timeFits time (untilMidnight s)) (timeFits time (sinceMidnight s)))
+          (and-or-distrib-left (enabledRule first second s) _ _))
 
   verdict-same : (ss ts : List (List ℕ)) → all inRange ss ≡ true → Halved ss ts → verdict first second point to time ss ≡ verdict first second point to time ts
   unfolding verdict

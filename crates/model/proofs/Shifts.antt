@@ -5,31 +5,29 @@ use native.Mathlib.Numerals.{add-one}
 use native.Mathlib.Omega.{arith}
 use mathlib.Core.Path.{_≡_, refl, sym, _∙_, ap}
 use mathlib.Core.List.{List}
-use mathlib.Core.Bool.{Bool, true, false, not, _&&_, _||_, and-true}
+use mathlib.Core.Bool.{Bool, true, false, not, _&&_, _||_, and-true, and-false, or-true, or-self}
 use lib.Dec.{ltb, leb, eqb, eqb·suc-zero}
-use lib.ListN.{length, take, drop, length-append, length-take, length-drop}
-use lib.Seq.{length-take-le}
-use borrow.Author.Tests.{ltb-true, leb-true, eqb-true, lt-ltb, le-ltb, le-leb}
+use lib.ListN.{length, take, drop, length-take, length-drop}
+use borrow.Author.Tests.{ltb-true, leb-true, eqb-true, lt-ltb, le-ltb, le-leb, not-false}
 use Rattle.octets.specs.Octets.{put}
-use Rattle.octets.proofs.Laws.{length-digits, drop-put, get-put-same, get-put-before, get-put-after, same-eq}
-use Rattle.model.specs.Words.{bit, zeros}
+use Rattle.octets.proofs.Laws.{length-put, drop-put, get-put-same, get-put-before, get-put-after, same-eq}
+use Rattle.model.specs.Words.{bit, zeros, within}
 use Rattle.model.specs.Numbers as n
-use Rattle.model.specs.Site.{kind, flags, recordKind, instance, always, locationKind, weekdays, location, fromMinute, toMinute}
+use Rattle.model.specs.Site.{kind, flags, recordKind, instance, always, everywhere, locationKind, weekdays, location, fromMinute, toMinute}
 use Rattle.model.specs.Accept.{clear, real, locationInRange, ruleInRange, inRangeAs, inRange}
 use Rattle.model.specs.Checks.{weekday, weekdayBefore, minuteOfDay, crossesMidnight, fitsWithinDay, fitsPastMidnight, timeFits}
 use Rattle.model.specs.Shifts.{isRule, isShift, followingDays, untilMidnight, sinceMidnight}
 use Rattle.model.specs.Demands.{ShiftHalves}
 use Rattle.model.proofs.Bits.{bit-above, bit-mod}
-use Rattle.model.proofs.Laws.{and-left, and-right}
+use Rattle.model.proofs.Laws.{and-left, and-right, or-left, or-right}
 
 -- ── a rule in range
 
+-- What is used of it.
 pub record RuleRange (s : List ℕ) : Type 0 where
-  pub flags-in : ltb (flags s) 16 ≡ true
   pub days-in : ltb (weekdays s) 128 ≡ true
   pub place-in : locationInRange s ≡ true
   pub from-in : leb (fromMinute s) n.minutes-of-day ≡ true
-  pub to-in : leb (toMinute s) n.minutes-of-day ≡ true
   pub spare-in : clear 16 16 s ≡ true
 
 pub rule-range : (s : List ℕ) → ruleInRange s ≡ true → RuleRange s
@@ -44,17 +42,20 @@ rule-range s h =
     let place = and-left b (leb (fromMinute s) n.minutes-of-day) from in
     let first = and-left a (locationInRange s) place in
     record {
-      flags-in = and-left (ltb (flags s) 16) (ltb (weekdays s) 128) first;
       days-in = and-right (ltb (flags s) 16) (ltb (weekdays s) 128) first;
       place-in = and-right a (locationInRange s) place;
       from-in = and-right b (leb (fromMinute s) n.minutes-of-day) from;
-      to-in = and-right c (leb (toMinute s) n.minutes-of-day) minutes;
       spare-in = and-right d (clear 16 16 s) h;
     }
 
-range-rule : (s : List ℕ) → RuleRange s → ruleInRange s ≡ true
-unfolding ruleInRange
-range-rule s r = rw (r .flags-in, r .days-in, r .place-in, r .from-in, r .to-in, r .spare-in)
+-- Not everywhere, it is at a zone or a point.
+pub rule-location : (s : List ℕ) → RuleRange s → everywhere s ≡ false → (n.access-zone ≤ locationKind s) × (locationKind s ≤ n.access-point)
+rule-location s r e =
+    let inside : within n.access-zone n.access-point (locationKind s) && real (location s) ≡ true = rw e at (r .place-in) in
+    let w = and-left (within n.access-zone n.access-point (locationKind s)) (real (location s)) inside in (
+      leb-true n.access-zone (locationKind s) (and-left (leb n.access-zone (locationKind s)) (leb (locationKind s) n.access-point) w),
+      leb-true (locationKind s) n.access-point (and-right (leb n.access-zone (locationKind s)) (leb (locationKind s) n.access-point) w),
+    )
 
 -- Its spare bytes are there.
 pub whole-rule : (s : List ℕ) → RuleRange s → 32 ≤ length s
@@ -69,7 +70,6 @@ whole-rule s r =
 
 -- All fields of a rule but these.
 pub record Like (s t : List ℕ) : Type 0 where
-  pub same-length : length t ≡ length s
   pub same-kind : kind t ≡ kind s
   pub same-flags : flags t ≡ flags s
   pub same-place-kind : locationKind t ≡ locationKind s
@@ -77,15 +77,10 @@ pub record Like (s t : List ℕ) : Type 0 where
   pub same-place : location t ≡ location s
   pub same-spare : drop 16 t ≡ drop 16 s
 
-length-put : (at w v : ℕ) (s : List ℕ) → at + w ≤ length s → length (put at w v s) ≡ length s
-unfolding put
-length-put at w v s h = simp (length-append, length-take-le at s (omega arith), length-digits, length-drop) (omega arith)
-
 module _ (s : List ℕ) (long : 32 ≤ length s) where
   days-like : (v : ℕ) → Like s (put 3 1 v s)
   days-like v =
       record {
-        same-length = length-put 3 1 v s (omega arith);
         same-kind = get-put-before 3 1 v 0 1 s (omega arith) (omega arith);
         same-flags = get-put-before 3 1 v 1 1 s (omega arith) (omega arith);
         same-place-kind = get-put-before 3 1 v 2 1 s (omega arith) (omega arith);
@@ -97,7 +92,6 @@ module _ (s : List ℕ) (long : 32 ≤ length s) where
   minutes-like : (at v : ℕ) → 12 ≤ at → at ≤ 14 → Like s (put at 2 v s)
   minutes-like at v low high =
       record {
-        same-length = length-put at 2 v s (omega arith);
         same-kind = get-put-before at 2 v 0 1 s (omega arith) (omega arith);
         same-flags = get-put-before at 2 v 1 1 s (omega arith) (omega arith);
         same-place-kind = get-put-before at 2 v 2 1 s (omega arith) (omega arith);
@@ -109,27 +103,12 @@ module _ (s : List ℕ) (long : 32 ≤ length s) where
 like-trans : (s t u : List ℕ) → Like s t → Like t u → Like s u
 like-trans s t u a b =
     record {
-      same-length = b .same-length ∙ a .same-length;
       same-kind = b .same-kind ∙ a .same-kind;
       same-flags = b .same-flags ∙ a .same-flags;
       same-place-kind = b .same-place-kind ∙ a .same-place-kind;
       same-instance = b .same-instance ∙ a .same-instance;
       same-place = b .same-place ∙ a .same-place;
       same-spare = b .same-spare ∙ a .same-spare;
-    }
-
--- It is in range where its days and minutes are.
-like-range : (s t : List ℕ) → Like s t → RuleRange s → ltb (weekdays t) 128 ≡ true → leb (fromMinute t) n.minutes-of-day ≡ true
-    → leb (toMinute t) n.minutes-of-day ≡ true → RuleRange t
-unfolding clear
-like-range s t l r days from to =
-    record {
-      flags-in = rw (l .same-flags) (r .flags-in);
-      days-in = days;
-      place-in = rw (l .same-flags, l .same-place-kind, l .same-place) (r .place-in);
-      from-in = from;
-      to-in = to;
-      spare-in = rw (l .same-spare) (r .spare-in);
     }
 
 -- ── the halves
@@ -185,28 +164,28 @@ module _ (s : List ℕ) (long : 32 ≤ length s) where
   unfolding sinceMidnight
   since-like = like-trans s later (sinceMidnight s) (days-like s long (followingDays (weekdays s))) (minutes-like later long-later 12 0 (omega arith) (omega arith))
 
-  pub until-days : weekdays (untilMidnight s) ≡ weekdays s
+  until-days : weekdays (untilMidnight s) ≡ weekdays s
   unfolding untilMidnight
   until-days = get-put-before 14 2 n.minutes-of-day 3 1 s (omega (arith, long)) (omega arith)
 
-  pub until-from : fromMinute (untilMidnight s) ≡ fromMinute s
+  until-from : fromMinute (untilMidnight s) ≡ fromMinute s
   unfolding untilMidnight
   until-from = get-put-before 14 2 n.minutes-of-day 12 2 s (omega (arith, long)) (omega arith)
 
-  pub until-to : toMinute (untilMidnight s) ≡ n.minutes-of-day
+  until-to : toMinute (untilMidnight s) ≡ n.minutes-of-day
   unfolding untilMidnight
   until-to = get-put-same 14 1 n.minutes-of-day s (omega (arith, long))
 
-  pub since-days : weekdays (sinceMidnight s) ≡ followingDays (weekdays s)
+  since-days : weekdays (sinceMidnight s) ≡ followingDays (weekdays s)
   unfolding sinceMidnight
   since-days =
       get-put-before 12 2 0 3 1 later (omega (arith, long-later)) (omega arith) ∙ get-put-same 3 0 (followingDays (weekdays s)) s (omega (arith, long))
 
-  pub since-from : fromMinute (sinceMidnight s) ≡ 0
+  since-from : fromMinute (sinceMidnight s) ≡ 0
   unfolding sinceMidnight
   since-from = get-put-same 12 1 0 later (omega (arith, long-later))
 
-  pub since-to : toMinute (sinceMidnight s) ≡ toMinute s
+  since-to : toMinute (sinceMidnight s) ≡ toMinute s
   unfolding sinceMidnight
   since-to =
       get-put-after 12 2 0 14 2 later (omega (arith, long-later)) (omega arith)
@@ -216,41 +195,81 @@ module _ (s : List ℕ) (long : 32 ≤ length s) where
   unfolding crossesMidnight
   since-within = rw (since-from, since-to) (le-ltb (toMinute s) 0 (omega arith))
 
--- They are in range, and cross no midnight.
-pub following-in : (d : ℕ) → ltb d 128 ≡ true → ltb (followingDays d) 128 ≡ true
+-- The days after are days of the week.
+following-in : (d : ℕ) → ltb d 128 ≡ true → ltb (followingDays d) 128 ≡ true
 unfolding followingDays
 following-in d h = let l = ltb-true d 128 h in lt-ltb (followingDays d) 128 (omega arith)
+
+-- A rule's range, and its instance's.
+as-rule : (s : List ℕ) → kind s ≡ n.access-rule → inRange s ≡ real (instance s) && ruleInRange s
+unfolding inRange
+as-rule s k = rw k
+
+-- The shift is in range exactly when both halves are.
+pub range-halves : (s : List ℕ) → 32 ≤ length s → isShift s ≡ true → not (inRange s) ≡ not (inRange (untilMidnight s)) || not (inRange (sinceMidnight s))
+unfolding isShift ruleInRange clear
+range-halves s long i =
+    let k = eqb-true (kind s) n.access-rule (and-left (isRule s) _ i) in
+    let u = until-like s long in
+    let v = since-like s long in
+    rw (
+      as-rule s k,
+      as-rule (untilMidnight s) (u .same-kind ∙ k),
+      as-rule (sinceMidnight s) (v .same-kind ∙ k),
+      u .same-instance,
+      u .same-flags,
+      u .same-place-kind,
+      u .same-place,
+      u .same-spare,
+      until-days s long,
+      until-from s long,
+      until-to s long,
+      v .same-instance,
+      v .same-flags,
+      v .same-place-kind,
+      v .same-place,
+      v .same-spare,
+      since-days s long,
+      since-from s long,
+      since-to s long,
+    )
+    (halves (real (instance s)) (ltb (flags s) 16) (ltb (weekdays s) 128) (ltb (followingDays (weekdays s)) 128) (locationInRange s)
+    (leb (fromMinute s) n.minutes-of-day) (leb (toMinute s) n.minutes-of-day) (clear 16 16 s) (following-in (weekdays s)))
+  where
+    halves : (a b c c′ d f g h : Bool) → (c ≡ true → c′ ≡ true) → not (a && (b && c && d && f && g && h))
+        ≡ not (a && (b && c && d && f && true && h)) || not (a && (b && c′ && d && true && g && h))
+    halves false b c c′ d f g h l = refl
+    halves true false c c′ d f g h l = refl
+    halves true true false c′ d f g h l = refl
+    halves true true true c′ false f g h l = refl
+    halves true true true c′ true false g h l = refl
+    halves true true true c′ true true false h l = rw (l refl) (sym (or-true (not h)))
+    halves true true true c′ true true true h l = rw (l refl) (sym (or-self (not h)))
 
 module _ (s : List ℕ) (r : RuleRange s) where
   abbrev long : 32 ≤ length s
   long = whole-rule s r
 
-  until-range : RuleRange (untilMidnight s)
-  until-range = like-range s (untilMidnight s) (until-like s long) r (rw (until-days s long) (r .days-in)) (rw (until-from s long) (r .from-in)) (rw (until-to s long) refl)
-
-  since-range : RuleRange (sinceMidnight s)
-  since-range = like-range s (sinceMidnight s) (since-like s long) r (rw (since-days s long) (following-in (weekdays s) (r .days-in))) (rw (since-from s long) refl) (rw (since-to s long) (r .to-in))
-
   until-within : crossesMidnight (untilMidnight s) ≡ false
   unfolding crossesMidnight
-  until-within = rw ((until-from s long), (until-to s long)) (le-ltb n.minutes-of-day (fromMinute s) (leb-true _ _ (r .from-in)))
+  until-within = rw (until-from s long, until-to s long) (le-ltb n.minutes-of-day (fromMinute s) (leb-true _ _ (r .from-in)))
 
   -- The shift fits exactly when one of them does.
   until-fits : (time : ℕ) → timeFits time (untilMidnight s) ≡ always s || bit (weekdays s) (weekday time) && leb (fromMinute s) (minuteOfDay time)
   unfolding timeFits fitsWithinDay
   until-fits time =
-      rw ((until-like s long) .same-flags, until-within, (until-days s long), (until-from s long), (until-to s long), lt-ltb (minuteOfDay time) n.minutes-of-day (minute-below time))
+      rw (until-like s long .same-flags, until-within, until-days s long, until-from s long, until-to s long, lt-ltb (minuteOfDay time) n.minutes-of-day (minute-below time))
       (simp and-true)
 
   since-fits : (time : ℕ) → timeFits time (sinceMidnight s) ≡ always s || bit (weekdays s) (weekdayBefore (weekday time)) && ltb (minuteOfDay time) (toMinute s)
   unfolding timeFits fitsWithinDay
   since-fits time =
       rw (
-        (since-like s long) .same-flags,
-        (since-within s long),
-        (since-days s long),
-        (since-from s long),
-        (since-to s long),
+        since-like s long .same-flags,
+        since-within s long,
+        since-days s long,
+        since-from s long,
+        since-to s long,
         next-bit (weekdays s) (weekday time) (ltb-true (weekdays s) 128 (r .days-in)) (weekday-below time),
         le-leb 0 (minuteOfDay time) (omega arith),
       )
@@ -274,18 +293,16 @@ shift-rule s h i =
     let k = eqb-true (kind s) n.access-rule (and-left (isRule s) (crossesMidnight s) i) in
     rule-range s (rw k at (and-right (real (instance s)) (inRangeAs (recordKind s) s) h))
 
-like-in-range : (s t : List ℕ) → inRange s ≡ true → isShift s ≡ true → Like s t → RuleRange t → crossesMidnight t ≡ false
-    → inRange t && not (isShift t) ≡ true
-unfolding inRange isShift
-like-in-range s t h i l r c =
-    let k = eqb-true (kind s) n.access-rule (and-left (isRule s) (crossesMidnight s) i) in
-    rw (c, l .same-kind, l .same-instance, k, range-rule t r, and-left (real (instance s)) (inRangeAs (recordKind s) s) h)
-
 pub shift-halves : ShiftHalves
 unfolding ShiftHalves isShift
 shift-halves s h i =
-    let r = shift-rule s h i in (
+    let r = shift-rule s h i in
+    let long = whole-rule s r in
+    let both : not (inRange (untilMidnight s)) || not (inRange (sinceMidnight s)) ≡ false = sym (range-halves s long i) ∙ ap not h in (
       fits-halves s r (and-right (isRule s) (crossesMidnight s) i),
-      like-in-range s (untilMidnight s) h i (until-like s (whole-rule s r)) (until-range s r) (until-within s r),
-      like-in-range s (sinceMidnight s) h i (since-like s (whole-rule s r)) (since-range s r) (since-within s (whole-rule s r)),
+      within-day (untilMidnight s) (or-left (not (inRange (untilMidnight s))) (not (inRange (sinceMidnight s))) both) (until-within s r),
+      within-day (sinceMidnight s) (or-right (not (inRange (untilMidnight s))) (not (inRange (sinceMidnight s))) both) (since-within s long),
     )
+  where
+    within-day : (t : List ℕ) → not (inRange t) ≡ false → crossesMidnight t ≡ false → inRange t && not (isRule t && crossesMidnight t) ≡ true
+    within-day t r c = rw (not-false (inRange t) r, c, and-false (isRule t))

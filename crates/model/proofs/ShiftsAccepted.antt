@@ -3,90 +3,40 @@ use Prim.Native.Nat.{ℕ, zero, suc, _*_, _/_, _%_, _≤_}
 use native.Mathlib.Omega.{arith}
 use mathlib.Core.Path.{_≡_, refl, sym, _∙_, ap}
 use mathlib.Core.List.{List, [], _∷_}
-use mathlib.Core.Bool.{Bool, true, false, not, _&&_, _||_, and-false, or-true, or-self, false≢true}
-use lib.Dec.{ltb, leb, eqb}
+use mathlib.Core.Bool.{Bool, true, false, not, _&&_, _||_, and-false, or-self, false≢true}
+use lib.Dec.{ltb, eqb}
 use lib.ListN.{length, drop, length-drop}
 use lib.Seq.{length-take-le}
-use borrow.Author.Tests.{leb-true, eqb-true, ne-eqb}
+use borrow.Author.Tests.{eqb-true, ne-eqb}
 use Rattle.octets.specs.Octets.{groups}
-use Rattle.model.specs.Words.{if_then_else_, keep, any, all, within, missing}
+use Rattle.model.specs.Words.{if_then_else_, keep, any, all, missing}
 use Rattle.model.specs.Numbers as n
-use Rattle.model.specs.Site.{kind, recordKind, instance, pointOf, everywhere, locationKind, location, weekdays, fromMinute, toMinute, flags, isAt, findIn, records}
-use Rattle.model.specs.Accept.{clear, real, locationInRange, ruleInRange, inRangeAs, inRange, twins, twice, exists, noneOrExists, namesExistAs, namesExist}
+use Rattle.model.specs.Site.{kind, recordKind, instance, pointOf, everywhere, locationKind, location, isAt, findIn, records}
+use Rattle.model.specs.Accept.{real, inRangeAs, inRange, twins, twice, exists, noneOrExists, namesExistAs, namesExist}
 use Rattle.model.specs.Calls.{checkSite}
-use Rattle.model.specs.Shifts.{isRule, isShift, followingDays, untilMidnight, sinceMidnight, Halved}
-use Rattle.model.specs.Demands.{notSiteLength, AcceptedShifts}
+use Rattle.model.specs.Shifts.{isRule, isShift, untilMidnight, sinceMidnight, Halved}
+use Rattle.model.specs.Demands.{returnsOther, AcceptedShifts}
 use Rattle.model.specs.declared.RecordKind.{RecordKind}
 use Rattle.model.specs.declared.RecordKind.the-variants.{OfZone, OfPoint, OfRule, OfCredential, OfFactor, OfUnknown}
 use Rattle.model.specs.declared.Returned.{Returned}
 use Rattle.model.specs.declared.Returned.the-variants.{WorkedThrough, SiteLength, SiteField, SiteTwice, SiteMissing}
 use Rattle.model.proofs.Laws.{and-left, and-right, find-keep, any-keep}
+use Rattle.model.proofs.Flat.{Sized}
 use Rattle.model.proofs.Border.{kind-at}
-use Rattle.model.proofs.Shifts.{rule-range, whole-rule, Like, until-like, since-like, until-days, until-from, until-to, since-days, since-from, since-to, following-in, shift-rule}
+use Rattle.model.proofs.Shifts.{RuleRange, rule-range, rule-location, whole-rule, Like, until-like, since-like, range-halves, shift-rule}
 use Rattle.model.proofs.SameShifts.{notRule, other-kind, any-same}
 
 -- ── refusal 2
 
--- A record of 32 bytes.
-abbrev whole : List ℕ → Bool
-whole s = eqb (length s) 32
-
--- A rule in range.
-as-rule : (s : List ℕ) → kind s ≡ n.access-rule → inRange s ≡ real (instance s) && ruleInRange s
-unfolding inRange
-as-rule s k = rw k
-
--- A shift is in range exactly when its halves are.
-range-halves : (s : List ℕ) → whole s ≡ true → isShift s ≡ true → not (inRange s) ≡ not (inRange (untilMidnight s)) || not (inRange (sinceMidnight s))
-unfolding isShift ruleInRange clear
-range-halves s w i =
-    let k = eqb-true (kind s) n.access-rule (and-left (isRule s) _ i) in
-    let e = eqb-true (length s) 32 w in
-    let long : 32 ≤ length s = omega arith in
-    let u = until-like s long in
-    let v = since-like s long in
-    rw (
-      as-rule s k,
-      as-rule (untilMidnight s) (u .same-kind ∙ k),
-      as-rule (sinceMidnight s) (v .same-kind ∙ k),
-      u .same-instance,
-      u .same-flags,
-      u .same-place-kind,
-      u .same-place,
-      u .same-spare,
-      until-days s long,
-      until-from s long,
-      until-to s long,
-      v .same-instance,
-      v .same-flags,
-      v .same-place-kind,
-      v .same-place,
-      v .same-spare,
-      since-days s long,
-      since-from s long,
-      since-to s long,
-    )
-    (halves (real (instance s)) (ltb (flags s) 16) (ltb (weekdays s) 128) (ltb (followingDays (weekdays s)) 128) (locationInRange s)
-    (leb (fromMinute s) n.minutes-of-day) (leb (toMinute s) n.minutes-of-day) (clear 16 16 s) (following-in (weekdays s)))
-  where
-    halves : (a b c c′ d f g h : Bool) → (c ≡ true → c′ ≡ true) → not (a && (b && c && d && f && g && h))
-        ≡ not (a && (b && c && d && f && true && h)) || not (a && (b && c′ && d && true && g && h))
-    halves false b c c′ d f g h l = refl
-    halves true false c c′ d f g h l = refl
-    halves true true false c′ d f g h l = refl
-    halves true true true c′ false f g h l = refl
-    halves true true true c′ true false g h l = refl
-    halves true true true c′ true true false h l = rw (l refl) (sym (or-true (not h)))
-    halves true true true c′ true true true h l = rw (l refl) (sym (or-self (not h)))
-
-whole-groups : (k : ℕ) (s : List ℕ) → k * 32 ≤ length s → all whole (groups 32 k s) ≡ true
+-- Every record has 32 bytes.
+sized-groups : (k : ℕ) (s : List ℕ) → k * 32 ≤ length s → Sized 32 (groups 32 k s) ≡ true
 unfolding groups
-whole-groups zero s h = refl
-whole-groups (suc k) s h = rw (length-take-le 32 s (omega arith)) (whole-groups k (drop 32 s) (simp length-drop (omega arith)))
+sized-groups zero s h = refl
+sized-groups (suc k) s h = rw (length-take-le 32 s (omega arith)) (sized-groups k (drop 32 s) (simp length-drop (omega arith)))
 
-all-whole : (site : List ℕ) → all whole (records site) ≡ true
+sized-records : (site : List ℕ) → Sized 32 (records site) ≡ true
 unfolding records
-all-whole site = whole-groups (length site / 32) site (omega arith)
+sized-records site = sized-groups (length site / 32) site (omega arith)
 
 -- All records are in range, or some are not.
 all-any : (q : List ℕ → Bool) (ss : List (List ℕ)) → all q ss ≡ not (any (λ s. not (q s)) ss)
@@ -99,8 +49,12 @@ all-any q (s ∷ ss) = go (q s) (all-any q ss)
 
 all-in-range : (site other : List ℕ) → Halved (records site) (records other) → all inRange (records site) ≡ all inRange (records other)
 all-in-range site other h =
-    all-any inRange (records site) ∙ ap not (any-same whole (λ s. not (inRange s)) range-halves (records site) (records other) (all-whole site) h)
+    all-any inRange (records site)
+    ∙ ap not (any-same (λ s. eqb (length s) 32) (λ s. not (inRange s)) of-whole (records site) (records other) (sized-records site) h)
     ∙ sym (all-any inRange (records other))
+  where
+    of-whole : (s : List ℕ) → eqb (length s) 32 ≡ true → isShift s ≡ true → not (inRange s) ≡ not (inRange (untilMidnight s)) || not (inRange (sinceMidnight s))
+    of-whole s w = let e = eqb-true (length s) 32 w in range-halves s (omega arith)
 
 -- ── refusal 3: rules are never twins
 
@@ -148,18 +102,15 @@ module _ (ss ts : List (List ℕ)) (h : Halved ss ts) where
   unfolding namesExist noneOrExists inRange
   names-same s r = go (recordKind s) (and-right (real (instance s)) (inRangeAs (recordKind s) s) r)
     where
-      place : (c : Bool) → everywhere s ≡ c → locationInRange s ≡ true → c || exists ss (locationKind s) (location s) ≡ c || exists ts (locationKind s) (location s)
+      place : (c : Bool) → everywhere s ≡ c → RuleRange s → c || exists ss (locationKind s) (location s) ≡ c || exists ts (locationKind s) (location s)
       place true e p = refl
       place false e p =
-          let inside : within n.access-zone n.access-point (locationKind s) && real (location s) ≡ true = rw e at p in
-          let w = and-left (within n.access-zone n.access-point (locationKind s)) (real (location s)) inside in
-          let high = leb-true (locationKind s) n.access-point (and-right (leb n.access-zone (locationKind s)) (leb (locationKind s) n.access-point) w) in
-          exists-same (locationKind s) (location s) (ne-eqb (locationKind s) n.access-rule (λ e. omega arith))
+          exists-same (locationKind s) (location s) (ne-eqb (locationKind s) n.access-rule (λ k. omega (arith, rule-location s p e .1)))
 
       go : (k : RecordKind) → inRangeAs k s ≡ true → namesExistAs k ss s ≡ namesExistAs k ts s
       go OfZone r = refl
       go OfPoint r = rw (exists-same n.access-zone (pointOf s .«zone_to» .0) refl, exists-same n.access-zone (pointOf s .«zone_from» .0) refl)
-      go OfRule r = place (everywhere s) refl (rule-range s r .place-in)
+      go OfRule r = place (everywhere s) refl (rule-range s r)
       go OfCredential r = refl
       go OfFactor r = exists-same n.access-credential (instance s) refl
       go OfUnknown r = refl
@@ -191,7 +142,7 @@ all-names ss ts h r =
 abbrev wrongLength : List ℕ → Bool
 wrongLength site = not (eqb (length site % n.record-size) 0) || ltb n.largest-site (length site)
 
-length-passed : (c : Bool) (x : Returned) → notSiteLength (if c then SiteLength else x) ≡ true → c ≡ false
+length-passed : (c : Bool) (x : Returned) → returnsOther SiteLength (if c then SiteLength else x) ≡ true → c ≡ false
 length-passed true x h = absurd (false≢true h)
 length-passed false x h = refl
 

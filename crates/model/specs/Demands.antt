@@ -37,14 +37,14 @@ Isolation =
     (P : Part) (g h : History) → SelfContained P g → SelfContained P h → partRecords P g ≡ partRecords P h →
     partEntries P g ≡ partEntries P h → (partAnswers P g ≡ partAnswers P h) × (partState P g ≡ partState P h)
 
--- A panel never turns back its own state: after every list from fresh the state is well formed, and no run of the list returns 6.
-abbrev pub notStateForm : Returned → Bool
-notStateForm r = not (eqb (number r) (number StateForm))
+-- A call returns another number than that of x.
+abbrev pub returnsOther : Returned → Returned → Bool
+returnsOther x r = not (eqb (number r) (number x))
 
--- Both, of every list from fresh.
+-- A panel never turns back its own state: after every list from fresh the state is well formed, and no run of the list returns 6.
 unfoldable pub WellFormed : Type 0
 WellFormed =
-    (h : History) → (wellFormed (h .site) (ended h) ≡ true) × (all notStateForm (returns (h .site) (begun h) (h .runs)) ≡ true)
+    (h : History) → (wellFormed (h .site) (ended h) ≡ true) × (all (returnsOther StateForm) (returns (h .site) (begun h) (h .runs)) ≡ true)
 
 -- "what is turned back changes nothing": a call that is turned back leaves every buffer as it was.
 unfoldable pub TurnedBack : Type 0
@@ -101,10 +101,7 @@ FreshShifts =
     Rewritten site other (fresh site) (fresh other)
 
 -- And the check of one returns what that of the other does, unless one of them is turned back for its length.
-abbrev pub notSiteLength : Returned → Bool
-notSiteLength r = not (eqb (number r) (number SiteLength))
-
 unfoldable pub AcceptedShifts : Type 0
 AcceptedShifts =
-    (site other : List ℕ) → notSiteLength (checkSite site) ≡ true → notSiteLength (checkSite other) ≡ true → Halved (records site) (records other) →
+    (site other : List ℕ) → returnsOther SiteLength (checkSite site) ≡ true → returnsOther SiteLength (checkSite other) ≡ true → Halved (records site) (records other) →
     checkSite site ≡ checkSite other

@@ -9,7 +9,7 @@ use native.Mathlib.Numerals.{add-one, one-add}
 use native.Mathlib.Omega.{arith}
 use lib.Arith.{digits-div, digits-mod, digits-lt, mod-mul}
 use lib.Dec.{lit<, eqb}
-use lib.ListN.{length, take, drop, getD, set, length-append, length-take, drop-of-length-le}
+use lib.ListN.{length, take, drop, getD, set, length-append, length-take, length-drop, drop-of-length-le}
 use lib.Pow.{pow-add}
 use lib.Seq.{length-take-le, drop-drop, take-at, take-take, take-append-le, drop-append-add, set-split, drop-cons, getD-at, getD-take, getD-drop}
 use borrow.Author.Tests.{eq-eqb, eqb-true}
@@ -112,6 +112,11 @@ unfolding digits
 digits-bytes zero v i h = lit< tt
 digits-bytes (suc w) v zero h = div-lt-iff-lt-mul (pos w) .1 (rw (pow-succ' 256 w) at h)
 digits-bytes (suc w) v (suc i) h = digits-bytes w (v % 256 ^ w) i (mod-lt v (pos w))
+
+-- A number put leaves the length as it was.
+pub length-put : (at w v : ℕ) (s : List ℕ) → at + w ≤ length s → length (put at w v s) ≡ length s
+unfolding put
+length-put at w v s h = simp (length-append, length-take-le at s (omega arith), length-digits, length-drop) (omega arith)
 
 -- What stands before a number put is as it was.
 pub take-put : (at w v a : ℕ) (s : List ℕ) → at + w ≤ length s → a ≤ at → take a (put at w v s) ≡ take a s

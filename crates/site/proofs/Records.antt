@@ -2,20 +2,19 @@
 use Prim.Native.Nat.{ℕ, zero, suc, _+_, _*_, _/_, _≤_, _<_}
 use mathlib.Core.Path.{_≡_, refl}
 use mathlib.Core.List.{List, [], _∷_}
-use mathlib.Core.Bool.{Bool, true, false, _&&_, _||_, and-false}
+use mathlib.Core.Bool.{Bool, true, false, _||_, and-false}
 use native.Mathlib.Omega.{arith}
-use lib.Dec.{leb, eqb, eqb·suc-zero}
+use lib.Dec.{eqb, eqb·suc-zero}
 use lib.ListN.{length, take, drop, getD, length-drop}
 use lib.Seq.{length-take-le}
-use borrow.Author.Tests.{leb-true}
 use Rattle.octets.specs.Octets.{groups}
-use Rattle.model.specs.Words.{if_then_else_, missing, within, any, all}
+use Rattle.model.specs.Words.{if_then_else_, missing, any, all}
 use Rattle.model.specs.Numbers.{access-zone, access-point}
-use Rattle.model.specs.Site.{recordKind, instance, everywhere, locationKind, location, records, findIn}
+use Rattle.model.specs.Site.{recordKind, instance, everywhere, locationKind, records, findIn}
 use Rattle.model.specs.Accept.{real, ruleInRange, inRangeAs, inRange, twins, twice}
 use Rattle.model.specs.declared.RecordKind.the-variants.{OfRule}
 use Rattle.model.proofs.Laws.{and-left, and-right}
-use Rattle.model.proofs.Shifts.{rule-range}
+use Rattle.model.proofs.Shifts.{rule-range, rule-location}
 use Rattle.index.proofs.Walks.{left-turn}
 
 -- What is missing has no bytes.
@@ -61,9 +60,4 @@ unfolding inRange
 rule-in-range s h k = rw k at (and-right (real (instance s)) (inRangeAs (recordKind s) s) h)
 
 pub point-location : (s : List ℕ) → ruleInRange s ≡ true → everywhere s ≡ false → (locationKind s ≡ access-zone → ⊥) → locationKind s ≡ access-point
-point-location s h e z =
-    let inside : within access-zone access-point (locationKind s) && real (location s) ≡ true = rw e at (rule-range s h .place-in) in
-    let w = and-left (within access-zone access-point (locationKind s)) (real (location s)) inside in
-    let low = leb-true access-zone (locationKind s) (and-left (leb access-zone (locationKind s)) (leb (locationKind s) access-point) w) in
-    let high = leb-true (locationKind s) access-point (and-right (leb access-zone (locationKind s)) (leb (locationKind s) access-point) w) in
-    omega arith
+point-location s h e z = let k = rule-location s (rule-range s h) e in omega (arith, k .0, k .1)
