@@ -6,8 +6,8 @@ use mathlib.Core.List.{List, [], _∷_, map, flatten}
 use mathlib.Core.Bool.{_||_}
 use lib.Dec.{eqb}
 use lib.IntN.{pos}
-use Rattle.model.specs.Numbers.{NONE, NEVER, UNLIMITED}
 use Rattle.octets.specs.Octets.{put}
+use Rattle.model.specs.Numbers.{NONE, NEVER, UNLIMITED}
 use Rattle.model.specs.Site.{credentialId, records}
 use Rattle.model.specs.State.{Panel, panel, sites, find, fresh}
 use Rattle.model.specs.Entry.{entryOf}

@@ -1,4 +1,4 @@
--- Sites that differ in their shifts alone: their rules say the same, so that every list of runs from fresh is answered alike.
+-- Sites that differ in their shifts alone: their rules say the same, so that every list of runs is answered alike.
 use Prim.Native.Nat.{ℕ}
 use mathlib.Core.Path.{_≡_, refl, sym, _∙_, ap}
 use mathlib.Core.List.{List, [], _∷_, map}

@@ -25,10 +25,11 @@ isShift s = isRule s && crossesMidnight s
 unfoldable pub followingDays : ℕ → ℕ
 followingDays days = days % 64 * 2 + days / 64
 
--- Its two halves: from .. 1,440 on these days, and 0 .. to on the days after them.
+-- Its first half: "from..1,440 on these days".
 unfoldable pub untilMidnight : List ℕ → List ℕ
 untilMidnight s = put 14 2 n.minutes-of-day s
 
+-- Its second half: "0..to on the days after them".
 unfoldable pub sinceMidnight : List ℕ → List ℕ
 sinceMidnight s = put 12 2 0 (put 3 1 (followingDays (weekdays s)) s)
 
@@ -42,10 +43,11 @@ stands ss s = any (same s) ss
 unfoldable pub standsHalved : List (List ℕ) → List ℕ → Bool
 standsHalved ts s = stands ts s || isShift s && stands ts (untilMidnight s) && stands ts (sinceMidnight s)
 
--- It stands there as it is, or it is a half of a shift that does.
+-- It is a half of a shift.
 abbrev pub isHalf : List ℕ → List ℕ → Bool
 isHalf t s = isShift s && (same (untilMidnight s) t || same (sinceMidnight s) t)
 
+-- It stands there as it is, or it is a half of a shift that does.
 unfoldable pub standsWhole : List (List ℕ) → List ℕ → Bool
 standsWhole ss t = stands ss t || any (isHalf t) ss
 
