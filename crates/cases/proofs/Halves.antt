@@ -9,8 +9,8 @@ use Rattle.model.specs.Site.{records, kind}
 use Rattle.model.specs.Accept.{inRange}
 use Rattle.model.specs.State.{Pair, panel, fresh}
 use Rattle.model.specs.Checks.{timeFits}
-use Rattle.model.specs.Calls.{number, checkSite}
-use Rattle.model.specs.Lists.{Worked, History, ended, worked, workedIn, eventIn}
+use Rattle.model.specs.Calls.{number, checkSite, checkState}
+use Rattle.model.specs.Lists.{Worked, History, returns, ended, worked, workedIn, eventIn}
 use Rattle.model.specs.Shifts.{isShift, followingDays, untilMidnight, sinceMidnight, standsHalved, standsWhole, Halved, others}
 use Rattle.model.specs.Demands.{returnsOther}
 use Rattle.model.specs.declared.Returned.the-variants.{WorkedThrough, SiteLength, SiteField, SiteTwice, SiteMissing, StateLength, StateForm, JournalLength, AnswersLength}
@@ -66,7 +66,7 @@ pub unmet : Unmet
 unfolding shifts night
 unmet = record { spare-day = refl; past-end = refl; within-day = refl }
 
--- ── the premises of `SameShifts` and `AcceptedShifts`
+-- ── the premises of `SameShifts`, `FreshShifts` and `AcceptedShifts`
 
 -- Point 2 in AUTHORIZE and credential 5 with rights 9.
 abbrev office : List (List ℕ)
@@ -93,12 +93,15 @@ pub rewritten : Halved (records (one-rule .site)) (records (two-rules .site))
 unfolding shifts night friday saturday one-rule two-rules
 rewritten = record { others = refl; halved = refl; whole = refl }
 
--- The events of a list; whether the records of two lists stand in each other, and whether the kinds of all but rules are the same.
+-- The events of a list; whether the records of two sites stand in each other, and their numbers; the kinds of all records of a list but rules.
 abbrev events : History → List ℕ
 events h = map (λ (w : Worked). eventIn (w .answer)) (worked h)
 
-abbrev stood : History → History → List Bool
-stood g h = all (standsHalved (records (h .site))) (records (g .site)) ∷ all (standsWhole (records (g .site))) (records (h .site)) ∷ []
+abbrev stood : List ℕ → List ℕ → List Bool
+stood site other = all (standsHalved (records other)) (records site) ∷ all (standsWhole (records site)) (records other) ∷ []
+
+abbrev numbers : List ℕ → List ℕ → List ℕ
+numbers site other = number (checkSite site) ∷ number (checkSite other) ∷ []
 
 abbrev kinds : History → List ℕ
 kinds h = map (λ (x : Pair). kind (x .0)) (others (panel (h .site) (ended h)))
@@ -121,20 +124,49 @@ unfoldable turned-round : History
 unfolding shifts friday saturday
 turned-round = history (saturday ∷ office-backwards ++ (friday ∷ [])) readings refl
 
+-- What the runs of a list return, from a state.
+abbrev returned : History → List ℕ → List ℕ
+returned h state = map number (returns (h .site) state (h .runs))
+
+-- The fresh state, and that with a byte beside the first record, a rule.
+abbrev blank : History → List ℕ
+blank h = fresh (h .site)
+
+abbrev marked : History → List ℕ
+marked h = put 0 1 1 (blank h)
+
+-- From 1,441.
+abbrev unbounded : List ℕ
+unbounded = with-fields (from-minute 1441 ∷ []) night
+
 pub record Differing : Type 0 where
   rewritten-events : events one-rule ++ events two-rules ≡ 136 ∷ 1 ∷ 1 ∷ 1 ∷ 136 ∷ 136 ∷ 1 ∷ 1 ∷ 1 ∷ 136 ∷ []
-  half-missing : (stood one-rule first-alone ≡ false ∷ true ∷ []) × (events first-alone ≡ 136 ∷ 1 ∷ 136 ∷ 136 ∷ 136 ∷ [])
-  half-misplaced : (stood one-rule wrong-day ≡ false ∷ false ∷ []) × (events wrong-day ≡ 136 ∷ 1 ∷ 136 ∷ 136 ∷ 136 ∷ [])
-  rule-added : (stood one-rule third-rule ≡ true ∷ false ∷ []) × (events third-rule ≡ 1 ∷ 1 ∷ 1 ∷ 1 ∷ 1 ∷ [])
-  others-moved : (stood one-rule turned-round ≡ true ∷ true ∷ []) × (kinds one-rule ++ kinds turned-round ≡ 2 ∷ 4 ∷ 5 ∷ 5 ∷ 5 ∷ 5 ∷ 4 ∷ 2 ∷ [])
+  half-missing : (stood (one-rule .site) (first-alone .site) ≡ false ∷ true ∷ []) × (events first-alone ≡ 136 ∷ 1 ∷ 136 ∷ 136 ∷ 136 ∷ [])
+  half-misplaced : (stood (one-rule .site) (wrong-day .site) ≡ false ∷ false ∷ []) × (events wrong-day ≡ 136 ∷ 1 ∷ 136 ∷ 136 ∷ 136 ∷ [])
+  rule-added : (stood (one-rule .site) (third-rule .site) ≡ true ∷ false ∷ []) × (events third-rule ≡ 1 ∷ 1 ∷ 1 ∷ 1 ∷ 1 ∷ [])
+  others-moved : (stood (one-rule .site) (turned-round .site) ≡ true ∷ true ∷ []) × (kinds one-rule ++ kinds turned-round ≡ 2 ∷ 4 ∷ 5 ∷ 5 ∷ 5 ∷ 5 ∷ 4 ∷ 2 ∷ [])
   states-differing :
-      map (λ (w : Worked). eventIn (w .answer)) (workedIn (one-rule .site) (put 82 1 1 (fresh (one-rule .site))) (one-rule .runs))
+      map (λ (w : Worked). eventIn (w .answer)) (workedIn (one-rule .site) (put 82 1 1 (blank one-rule)) (one-rule .runs))
       ≡ 158 ∷ 158 ∷ 158 ∷ 158 ∷ 158 ∷ []
-  -- Of `AcceptedShifts`: the number 1 alone is asked for; the same records, and a byte behind them.
+  -- A state that no run takes, of the one site and of the other; beside all records but rules it is the fresh one.
+  state-not-taken : returned one-rule (marked one-rule) ++ returned two-rules (blank two-rules) ≡ 6 ∷ 6 ∷ 6 ∷ 0 ∷ 10 ∷ 0 ∷ []
+  other-not-taken : returned one-rule (blank one-rule) ++ returned two-rules (marked two-rules) ≡ 0 ∷ 10 ∷ 0 ∷ 6 ∷ 6 ∷ 6 ∷ []
+  same-beside :
+      (others (panel (one-rule .site) (marked one-rule)) ≡ others (panel (two-rules .site) (blank two-rules)))
+      × (others (panel (one-rule .site) (blank one-rule)) ≡ others (panel (two-rules .site) (marked two-rules)))
+  -- Of `FreshShifts`: of the same records, with a byte behind them, the fresh state is not taken either.
+  fresh-not-taken : map (λ s. number (checkState s (fresh s))) (one-rule .site ∷ (one-rule .site ++ (0 ∷ [])) ∷ []) ≡ 0 ∷ 1 ∷ []
+  -- Of `AcceptedShifts`: a rule out of range in the other site alone, or in the one alone; a factor twice.
+  other-out-of-range :
+      (stood (one-rule .site) (one-rule .site ++ unbounded) ≡ true ∷ false ∷ []) × (numbers (one-rule .site) (one-rule .site ++ unbounded) ≡ 0 ∷ 2 ∷ [])
+  one-out-of-range :
+      (stood (one-rule .site ++ unbounded) (one-rule .site) ≡ false ∷ true ∷ []) × (numbers (one-rule .site ++ unbounded) (one-rule .site) ≡ 2 ∷ 0 ∷ [])
+  others-repeated : (stood (one-rule .site) (one-rule .site ++ card) ≡ true ∷ true ∷ []) × (numbers (one-rule .site) (one-rule .site ++ card) ≡ 0 ∷ 3 ∷ [])
+  -- The number 1 alone is asked for; the same records, and a byte behind them.
   asked :
       map (returnsOther SiteLength) (WorkedThrough ∷ SiteLength ∷ SiteField ∷ SiteTwice ∷ SiteMissing ∷ StateLength ∷ StateForm ∷ JournalLength ∷ AnswersLength ∷ [])
       ≡ true ∷ false ∷ true ∷ true ∷ true ∷ true ∷ true ∷ true ∷ true ∷ []
-  stray-byte : map (λ s. number (checkSite s)) (one-rule .site ∷ (one-rule .site ++ (0 ∷ [])) ∷ []) ≡ 0 ∷ 1 ∷ []
+  stray-byte : numbers (one-rule .site) (one-rule .site ++ (0 ∷ [])) ++ numbers (one-rule .site ++ (0 ∷ [])) (one-rule .site) ≡ 0 ∷ 1 ∷ 1 ∷ 0 ∷ []
 
 pub differing : Differing
 unfolding shifts night friday saturday one-rule two-rules first-alone wrong-day third-rule turned-round
@@ -146,6 +178,13 @@ differing =
       rule-added = (refl, refl);
       others-moved = (refl, refl);
       states-differing = refl;
+      state-not-taken = refl;
+      other-not-taken = refl;
+      same-beside = (refl, refl);
+      fresh-not-taken = refl;
+      other-out-of-range = (refl, refl);
+      one-out-of-range = (refl, refl);
+      others-repeated = (refl, refl);
       asked = refl;
       stray-byte = refl;
     }

@@ -42,7 +42,7 @@ pub record RunAccepted (site state : List ℕ) (r : Run) : Type 0 where
   pub answers-length : length (r .answers) ≡ length (r .journal) / 24 * 16
 
 -- A check that is made first hands on what it returns.
-first-passed : (first next : Returned) → (if not (isWorked first) then first else next) ≡ WorkedThrough → (isWorked first ≡ true) × (next ≡ WorkedThrough)
+pub first-passed : (first next : Returned) → (if not (isWorked first) then first else next) ≡ WorkedThrough → (isWorked first ≡ true) × (next ≡ WorkedThrough)
 unfolding isWorked
 first-passed first next h = go (isWorked first) refl h
   where

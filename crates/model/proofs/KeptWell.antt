@@ -1,37 +1,36 @@
 -- A panel never turns back its own state: it is well formed after every list of runs from fresh, and no run returns 6.
 use Prim.Native.Nat.{ℕ, _*_, _/_, _%_}
-use mathlib.Core.Path.{_≡_, refl, sym, ap₂}
+use mathlib.Core.Path.{_≡_, refl, ap₂}
 use mathlib.Core.List.{List, [], _∷_, _++_, map}
-use mathlib.Core.Bool.{Bool, true, false, not, _&&_, _||_, false≢true}
+use mathlib.Core.Bool.{Bool, true, false, not, _&&_, _||_}
 use lib.Dec.{ltb, eqb}
 use lib.ListN.{length}
-use borrow.Author.Tests.{eqb-true, eq-eqb, not-false}
+use borrow.Author.Tests.{eq-eqb, not-false}
 use Rattle.model.specs.Words.{if_then_else_, all}
 use Rattle.model.specs.Numbers as n
 use Rattle.model.specs.Site.{records}
 use Rattle.model.specs.State.{panel, fresh, wellFormed}
-use Rattle.model.specs.Entry.{entryOf, entries}
+use Rattle.model.specs.Entry.{entryOf}
 use Rattle.model.specs.Calls.{isWorked, checkSite, freshReturned, freshState, checkState, runReturned, runJournal}
 use Rattle.model.specs.Lists.{Run, runOn, stateAfter, returns, History, begun, ended}
 use Rattle.model.specs.Demands.{returnsOther, WellFormed}
+use Rattle.model.proofs.Open.{definitions}
 use Rattle.model.proofs.Flat.{sites-panel, panel-fresh, length-fresh}
 use Rattle.model.proofs.Runs.{passed-check, site-accepted, worked-through, site-worked, entriesBy, entriesIn, run-panel, run-length, begun-fresh}
+use Rattle.model.proofs.Entries.{lengths, first-passed}
 use Rattle.model.proofs.Well.{well-fresh}
 use Rattle.model.proofs.WellStep.{well-after}
 use Rattle.model.specs.declared.Returned.{Returned}
-use Rattle.model.specs.declared.Returned.the-variants.{WorkedThrough, StateLength, StateForm, JournalLength, AnswersLength}
+use Rattle.model.specs.declared.Returned.the-variants.{WorkedThrough, StateForm, JournalLength, AnswersLength}
 
--- What a run on a well-formed state of an accepted site returns: its journal and its answers alone decide.
+-- What a run on a well-formed state of an accepted site returns: its journal and its answers alone decide, as on the empty site.
 abbrev pub runReturns : Run → Returned
-runReturns r =
-    if not (eqb (length (r .journal) % n.entry-size) 0) || ltb n.largest-journal (length (r .journal)) then JournalLength else
-    if not (eqb (length (r .answers)) (length (r .journal) / n.entry-size * n.answer-size)) then AnswersLength else
-    WorkedThrough
+runReturns r = runOn [] [] r .returned
 
 -- The entries that the runs of a list work there.
 abbrev pub runEntries : List Run → List (List ℕ)
 runEntries [] = []
-runEntries (r ∷ rs) = (if isWorked (runReturns r) then entries (r .journal) else []) ++ runEntries rs
+runEntries (r ∷ rs) = entriesBy [] [] r ++ runEntries rs
 
 -- A state that a run takes: its site is accepted, and it is as long as the site and well formed.
 pub record Taken (site state : List ℕ) : Type 0 where
@@ -39,35 +38,29 @@ pub record Taken (site state : List ℕ) : Type 0 where
   pub as-long : length state ≡ length site
   pub well : wellFormed site state ≡ true
 
-as-long-as : (site state : List ℕ) → freshReturned site state ≡ WorkedThrough → length state ≡ length site
-unfolding freshReturned isWorked
-as-long-as site state h =
-    let e : (if not (eqb (length state) (length site)) then StateLength else WorkedThrough) ≡ WorkedThrough = rw (site-worked site state h) at h in
-    eqb-true (length state) (length site) (not-false _ (passed-check (not (eqb (length state) (length site))) StateLength WorkedThrough refl e .0))
-
 pub state-taken : (site state : List ℕ) → checkState site state ≡ WorkedThrough → Taken site state
 unfolding checkState isWorked
-state-taken site state h = go (isWorked (freshReturned site state)) refl h
-  where
-    go : (c : Bool) → isWorked (freshReturned site state) ≡ c
-        → (if not c then freshReturned site state else if not (wellFormed site state) then StateForm else WorkedThrough) ≡ WorkedThrough → Taken site state
-    go true w h =
-        let f = worked-through (freshReturned site state) w in
-        record {
-          site-accepts = site-worked site state f;
-          as-long = as-long-as site state f;
-          well = not-false _ (passed-check (not (wellFormed site state)) StateForm WorkedThrough refl h .0);
-        }
-    go false w h = let z : true ≡ false = rw h at w in absurd (false≢true (sym z))
+state-taken site state h =
+    let f = first-passed (freshReturned site state) _ h in
+    record {
+      site-accepts = site-worked site state (worked-through (freshReturned site state) (f .0));
+      as-long = lengths site state (f .0) .1;
+      well = not-false _ (passed-check (not (wellFormed site state)) StateForm WorkedThrough refl (f .1) .0);
+    }
 
 pub taken-state : (site state : List ℕ) → Taken site state → checkState site state ≡ WorkedThrough
 unfolding checkState freshReturned isWorked
 taken-state site state t = rw (t .site-accepts, t .as-long, eq-eqb (length site) (length site) refl, t .well)
 
+-- The empty site has such a state.
+empty-taken : checkState [] [] ≡ WorkedThrough
+unfolding definitions
+empty-taken = refl
+
 module _ (site state : List ℕ) (t : Taken site state) (r : Run) where
   run-returned : runOn site state r .returned ≡ runReturns r
   unfolding runOn runJournal runReturned isWorked
-  run-returned = rw (taken-state site state t)
+  run-returned = rw (taken-state site state t, empty-taken)
 
   -- It leaves such a state.
   run-taken : Taken site (runOn site state r .state)
@@ -98,9 +91,10 @@ list-well site (r ∷ rs) state t =
 
 -- None of them returns 6.
 none-state-form : (rs : List Run) → all (returnsOther StateForm) (map runReturns rs) ≡ true
+unfolding runOn runJournal runReturned isWorked
 none-state-form [] = refl
 none-state-form (r ∷ rs) =
-    rw (none-state-form rs)
+    rw (none-state-form rs, empty-taken)
     (go (not (eqb (length (r .journal) % n.entry-size) 0) || ltb n.largest-journal (length (r .journal)))
     (not (eqb (length (r .answers)) (length (r .journal) / n.entry-size * n.answer-size))))
   where

@@ -17,7 +17,7 @@ use Rattle.model.specs.Entry.{entryOf, answerBytes}
 use Rattle.model.specs.Checks.{identifying, confirming, factorFor, enabledRule, locationFits, crossesMidnight, timeFits, verdict}
 use Rattle.model.specs.Step.{entryOutcome, apply, panels, after, answers}
 use Rattle.model.specs.Lists.{stateAfter, Worked}
-use Rattle.model.specs.Shifts.{isRule, isShift, untilMidnight, sinceMidnight, stands, standsHalved, isHalf, standsWhole, Halved, others, Rewritten}
+use Rattle.model.specs.Shifts.{isRule, notRule, isShift, untilMidnight, sinceMidnight, stands, standsHalved, isHalf, standsWhole, Halved, others, Rewritten}
 use Rattle.model.specs.Demands.{SameShifts, FreshShifts}
 use Rattle.model.specs.declared.ZoneId.{ZoneId}
 use Rattle.model.specs.declared.PointId.{PointId}
@@ -173,30 +173,26 @@ module _ (first second : RightsId) (point : PointId) (to : ZoneId) (time : ℕ) 
 
 -- ── panels that differ in their rules alone, and whose rules say the same
 
--- All records but rules.
-abbrev pub notRule : List ℕ → Bool
-notRule s = not (isRule s)
-
 record ButRules (ps qs : Panel) : Type 0 where
   same-others : only notRule ps ≡ only notRule qs
   same-rules : (first second : RightsId) (point : PointId) (to : ZoneId) (time : ℕ) →
       verdict first second point to time (sites ps) ≡ verdict first second point to time (sites qs)
 
 -- What is of another kind is found among the others.
-pub other-kind : (k : ℕ) → eqb k n.access-rule ≡ false → (s : List ℕ) → kind s ≡ k → notRule s ≡ true
-other-kind k h s e = rw (e, h)
+pub kind-not-rule : (k : ℕ) → eqb k n.access-rule ≡ false → (s : List ℕ) → kind s ≡ k → notRule s ≡ true
+kind-not-rule k h s e = rw (e, h)
 
 module _ (ps : Panel) where
   find-other : (k i : ℕ) → eqb k n.access-rule ≡ false → find k i (only notRule ps) ≡ find k i ps
   unfolding find
-  find-other k i h = find-only notRule (isAt k i) ps (λ a. other-kind k h _ (kind-at k i _ a))
+  find-other k i h = find-only notRule (isAt k i) ps (λ a. kind-not-rule k h _ (kind-at k i _ a))
 
   factor-other : (c : CredentialId) (e : Entry) → factorFor c e (sites (only notRule ps)) ≡ factorFor c e (sites ps)
   unfolding factorFor
   factor-other c e = rw (sites-only notRule ps) (go (eqb (c .0) NONE))
     where
       factor : (s : List ℕ) → eqb (kind s) n.authentication-factor ≡ true → notRule s ≡ true
-      factor s h = other-kind n.authentication-factor refl s (eqb-true (kind s) n.authentication-factor h)
+      factor s h = kind-not-rule n.authentication-factor refl s (eqb-true (kind s) n.authentication-factor h)
 
       identified : (s : List ℕ) → identifying (e .argument) (e .value) s ≡ true → notRule s ≡ true
       identified s h = factor s (unfold identifying in and-left (eqb (kind s) n.authentication-factor) _ h)
@@ -243,10 +239,10 @@ same-list (e ∷ es) ps qs b =
 -- ── lists of runs
 
 -- The answers of worked entries.
-answers-at : (bs : List (List ℕ)) (ps : Panel) → map (λ (w : Worked). w .answer) (workedAt ps bs) ≡ map answerBytes (answers ps (map entryOf bs))
+worked-answers : (bs : List (List ℕ)) (ps : Panel) → map (λ (w : Worked). w .answer) (workedAt ps bs) ≡ map answerBytes (answers ps (map entryOf bs))
 unfolding workedAt panels answers
-answers-at [] ps = refl
-answers-at (b ∷ bs) ps = ap (λ rs. answerBytes (entryOutcome ps (entryOf b) .answer) ∷ rs) (answers-at bs (apply (entryOutcome ps (entryOf b)) ps))
+worked-answers [] ps = refl
+worked-answers (b ∷ bs) ps = ap (λ rs. answerBytes (entryOutcome ps (entryOf b) .answer) ∷ rs) (worked-answers bs (apply (entryOutcome ps (entryOf b)) ps))
 
 pub same-shifts : SameShifts
 unfolding SameShifts others
@@ -265,8 +261,8 @@ same-shifts site other state beside w rs =
         list-worked other (whole-other .whole-records) rs beside (o .as-long),
         one .entered,
         two .entered,
-        answers-at (runEntries rs) (panel site state),
-        answers-at (runEntries rs) (panel other beside),
+        worked-answers (runEntries rs) (panel site state),
+        worked-answers (runEntries rs) (panel other beside),
       )
           (ap (map answerBytes) (list .0)),
       record {

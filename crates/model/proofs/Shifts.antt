@@ -6,7 +6,7 @@ use native.Mathlib.Omega.{arith}
 use mathlib.Core.Path.{_≡_, refl, sym, _∙_, ap}
 use mathlib.Core.List.{List}
 use mathlib.Core.Bool.{Bool, true, false, not, _&&_, _||_, and-true, and-false, or-true, or-self}
-use lib.Dec.{ltb, leb, eqb, eqb·suc-zero}
+use lib.Dec.{ltb, leb, eqb·suc-zero}
 use lib.ListN.{length, take, drop, length-take, length-drop}
 use borrow.Author.Tests.{ltb-true, leb-true, eqb-true, lt-ltb, le-ltb, le-leb, not-false}
 use Rattle.octets.specs.Octets.{put}

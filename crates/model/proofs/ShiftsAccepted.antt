@@ -14,7 +14,7 @@ use Rattle.model.specs.Numbers as n
 use Rattle.model.specs.Site.{kind, recordKind, instance, pointOf, everywhere, locationKind, location, isAt, findIn, records}
 use Rattle.model.specs.Accept.{real, inRangeAs, inRange, twins, twice, exists, noneOrExists, namesExistAs, namesExist}
 use Rattle.model.specs.Calls.{checkSite}
-use Rattle.model.specs.Shifts.{isRule, isShift, untilMidnight, sinceMidnight, Halved}
+use Rattle.model.specs.Shifts.{isRule, notRule, isShift, untilMidnight, sinceMidnight, Halved}
 use Rattle.model.specs.Demands.{returnsOther, AcceptedShifts}
 use Rattle.model.specs.declared.RecordKind.{RecordKind}
 use Rattle.model.specs.declared.RecordKind.the-variants.{OfZone, OfPoint, OfRule, OfCredential, OfFactor, OfUnknown}
@@ -24,7 +24,7 @@ use Rattle.model.proofs.Laws.{and-left, and-right, find-keep, any-keep}
 use Rattle.model.proofs.Flat.{Sized}
 use Rattle.model.proofs.Border.{kind-at}
 use Rattle.model.proofs.Shifts.{RuleRange, rule-range, rule-location, whole-rule, Like, until-like, since-like, range-halves, shift-rule}
-use Rattle.model.proofs.SameShifts.{notRule, other-kind, any-same}
+use Rattle.model.proofs.SameShifts.{kind-not-rule, any-same}
 
 -- ── refusal 2
 
@@ -94,7 +94,7 @@ module _ (ss ts : List (List ℕ)) (h : Halved ss ts) where
   unfolding exists
   exists-same k i e =
       let among : (rs : List (List ℕ)) → findIn (isAt k i) (keep notRule rs) ≡ findIn (isAt k i) rs =
-      λ rs. find-keep notRule (isAt k i) rs (λ a. other-kind k e _ (kind-at k i _ a)) in
+      λ rs. find-keep notRule (isAt k i) rs (λ a. kind-not-rule k e _ (kind-at k i _ a)) in
       ap (λ s. not (missing s)) (sym (among ss) ∙ ap (findIn (isAt k i)) (h .others) ∙ among ts)
 
   -- So what a record in range names is: a rule names a zone or a point.

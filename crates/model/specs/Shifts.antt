@@ -13,9 +13,12 @@ use Rattle.model.specs.Checks.{crossesMidnight}
 use Rattle.model.specs.Calls.{checkState}
 use Rattle.model.specs.declared.Returned.the-variants.{WorkedThrough}
 
--- A rule.
+-- A rule; a record of another kind.
 abbrev pub isRule : List ℕ → Bool
 isRule s = eqb (kind s) n.access-rule
+
+abbrev pub notRule : List ℕ → Bool
+notRule s = not (isRule s)
 
 -- A rule with from > to.
 unfoldable pub isShift : List ℕ → Bool
@@ -53,13 +56,13 @@ standsWhole ss t = stands ss t || any (isHalf t) ss
 
 -- Records of two sites: all but rules are the same lists. Rules may stand in any sequence, and any number of times.
 pub record Halved (ss ts : List (List ℕ)) : Type 0 where
-  pub others : keep (λ s. not (isRule s)) ss ≡ keep (λ s. not (isRule s)) ts
+  pub others : keep notRule ss ≡ keep notRule ts
   pub halved : all (standsHalved ts) ss ≡ true
   pub whole : all (standsWhole ss) ts ≡ true
 
 -- All records of a panel but rules, with their state records.
 unfoldable pub others : Panel → Panel
-others ps = keep (λ (x : Pair). not (isRule (x .0))) ps
+others ps = keep (λ (x : Pair). notRule (x .0)) ps
 
 -- Two such sites with states that a run takes, which are the same beside all records but rules.
 pub record Rewritten (site other state beside : List ℕ) : Type 0 where
