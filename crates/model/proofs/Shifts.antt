@@ -13,8 +13,8 @@ use Rattle.octets.specs.Octets.{put}
 use Rattle.octets.proofs.Laws.{length-put, drop-put, get-put-same, get-put-before, get-put-after, same-eq}
 use Rattle.model.specs.Words.{bit, zeros, within}
 use Rattle.model.specs.Numbers as n
-use Rattle.model.specs.Site.{kind, flags, recordKind, instance, always, everywhere, locationKind, weekdays, location, fromMinute, toMinute}
-use Rattle.model.specs.Accept.{clear, real, locationInRange, ruleInRange, inRangeAs, inRange}
+use Rattle.model.specs.Site.{kind, flags, instance, always, everywhere, locationKind, weekdays, location, fromMinute, toMinute}
+use Rattle.model.specs.Accept.{clear, real, locationInRange, ruleInRange, inRange}
 use Rattle.model.specs.Checks.{weekday, weekdayBefore, minuteOfDay, crossesMidnight, fitsWithinDay, fitsPastMidnight, timeFits}
 use Rattle.model.specs.Shifts.{isRule, isShift, followingDays, untilMidnight, sinceMidnight}
 use Rattle.model.specs.Demands.{ShiftHalves}
@@ -288,10 +288,10 @@ module _ (s : List ℕ) (r : RuleRange s) where
 -- ── a shift in range
 
 pub shift-rule : (s : List ℕ) → inRange s ≡ true → isShift s ≡ true → RuleRange s
-unfolding inRange isShift
+unfolding isShift
 shift-rule s h i =
     let k = eqb-true (kind s) n.access-rule (and-left (isRule s) (crossesMidnight s) i) in
-    rule-range s (rw k at (and-right (real (instance s)) (inRangeAs (recordKind s) s) h))
+    rule-range s (and-right (real (instance s)) (ruleInRange s) (sym (as-rule s k) ∙ h))
 
 pub shift-halves : ShiftHalves
 unfolding ShiftHalves isShift
