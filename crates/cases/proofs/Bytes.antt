@@ -43,9 +43,9 @@ pin = digits 32 0x05_00_02_00_00000005_03_00000000000000_0000000000000066_000000
 unfoldable pub door-state : List ℕ
 door-state = digits 32 0x0000000A_00_00_0000_000003E8_00000384_003FFFFF_00000320_0000000000000000
 
--- Of credential 5: 9 uses, 8 days, used at 700, in no zone, entered at 600, event 128, not disabled, at no point.
+-- Of credential 5: 9 uses, 8 days, used at 700, in no zone, entered at 600, event 128, not disabled, at no point, granted at 650.
 unfoldable pub person-state : List ℕ
-person-state = digits 32 0x0009_0008_000002BC_003FFFFF_00000258_0080_00_00_003FFFFF_0000000000000000
+person-state = digits 32 0x0009_0008_000002BC_003FFFFF_00000258_0080_00_00_003FFFFF_0000028A_00000000
 
 -- Of a zone, with its count.
 unfoldable pub counted : ℕ → List ℕ

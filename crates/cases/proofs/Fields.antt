@@ -121,7 +121,8 @@ waiting-for v = (16, 4, v)
 abbrev pub waiting-since : ℕ → Field
 waiting-since v = (20, 4, v)
 
--- Of a credential: "0 uses, 2 days, 4 last use, 8 zone, 12 entered, 16 last event, 18 disable, 20 last point".
+-- Of a credential: "0 uses, 2 days, 4 last use, 8 zone, 12 entered, 16 last event, 18 disable, 20 last point"; document 02: "last
+-- grant at offset 24".
 abbrev pub uses : ℕ → Field
 uses v = (0, 2, v)
 
@@ -142,3 +143,6 @@ disabled v = (18, 1, v)
 
 abbrev pub last-point : ℕ → Field
 last-point v = (20, 4, v)
+
+abbrev pub last-grant : ℕ → Field
+last-grant v = (24, 4, v)

@@ -66,6 +66,7 @@ unfolding definitions
 point-written = refl
 
 -- "Credential: 0 uses, 2 days (2 each), 4 last use, 8 zone, 12 entered (4 each), 16 last event (2), 18 disable (1), 20 last point (4)."
+-- Document 02, job 5: "last grant at offset 24 (4 bytes".
 pub credential-state :
     credentialStateOf offsets
     ≡ record {
@@ -77,6 +78,7 @@ pub credential-state :
       «last_event» = 0x1011;
       disable = 18;
       «last_point» = record { 0 = 0x14151617 };
+      «last_grant» = 0x18191A1B;
     }
 unfolding definitions offsets
 credential-state = refl
@@ -92,8 +94,9 @@ pub credential-written :
       «last_event» = 0x1011;
       disable = 18;
       «last_point» = record { 0 = 0x14151617 };
+      «last_grant» = 0x18191A1B;
     }
-    ≡ 0 ∷ 1 ∷ 2 ∷ 3 ∷ 4 ∷ 5 ∷ 6 ∷ 7 ∷ 8 ∷ 9 ∷ 10 ∷ 11 ∷ 12 ∷ 13 ∷ 14 ∷ 15 ∷ 16 ∷ 17 ∷ 18 ∷ 0 ∷ 20 ∷ 21 ∷ 22 ∷ 23 ∷ 0 ∷ 0 ∷ 0 ∷ 0 ∷ 0 ∷ 0 ∷ 0 ∷ 0 ∷ []
+    ≡ 0 ∷ 1 ∷ 2 ∷ 3 ∷ 4 ∷ 5 ∷ 6 ∷ 7 ∷ 8 ∷ 9 ∷ 10 ∷ 11 ∷ 12 ∷ 13 ∷ 14 ∷ 15 ∷ 16 ∷ 17 ∷ 18 ∷ 0 ∷ 20 ∷ 21 ∷ 22 ∷ 23 ∷ 24 ∷ 25 ∷ 26 ∷ 27 ∷ 0 ∷ 0 ∷ 0 ∷ 0 ∷ []
 unfolding definitions
 credential-written = refl
 
@@ -105,7 +108,8 @@ every-kind =
     (zone-at 8 ∷ with-fields ((17, 1, 3) ∷ []) (point-at 2 8 4194303) ∷ point-at 3 4194303 8 ∷ rule-at 1 1 8
     ∷ with-fields ((2, 1, 3) ∷ (16, 2, 0x0102) ∷ (18, 2, 0x0304) ∷ []) (credential-at 5) ∷ factor-at 1 6 7 ∷ credential-at 6 ∷ [])
 
--- "Fresh: uses, days, disable from the site; references NONE; last use and entered never; else zero." "Rule, factor: zero."
+-- "Fresh: uses, days, disable from the site; references NONE; last use and entered never; else zero." "Rule, factor: zero." Document 02: last grant is
+-- "never when fresh".
 pub fresh-bytes :
     freshState every-kind (replicate 224 7)
     ≡ record {
@@ -117,10 +121,10 @@ pub fresh-bytes :
           ∷ (0 ∷ 0 ∷ 0 ∷ 0 ∷ 0 ∷ 0 ∷ 0 ∷ 0 ∷ 0 ∷ 0 ∷ 0 ∷ 0 ∷ 0 ∷ 0 ∷ 0 ∷ 0 ∷ 0x00 ∷ 0x3F ∷ 0xFF ∷ 0xFF ∷ 0 ∷ 0 ∷ 0 ∷ 0 ∷ 0 ∷ 0 ∷ 0 ∷ 0 ∷ 0 ∷ 0 ∷ 0 ∷ 0 ∷ [])
           ∷ replicate 32 0
           ∷ (0x01 ∷ 0x02 ∷ 0x03 ∷ 0x04 ∷ 0xFF ∷ 0xFF ∷ 0xFF ∷ 0xFF ∷ 0x00 ∷ 0x3F ∷ 0xFF ∷ 0xFF ∷ 0xFF ∷ 0xFF ∷ 0xFF ∷ 0xFF ∷ 0 ∷ 0 ∷ 3 ∷ 0
-          ∷ 0x00 ∷ 0x3F ∷ 0xFF ∷ 0xFF ∷ 0 ∷ 0 ∷ 0 ∷ 0 ∷ 0 ∷ 0 ∷ 0 ∷ 0 ∷ [])
+          ∷ 0x00 ∷ 0x3F ∷ 0xFF ∷ 0xFF ∷ 0xFF ∷ 0xFF ∷ 0xFF ∷ 0xFF ∷ 0 ∷ 0 ∷ 0 ∷ 0 ∷ [])
           ∷ replicate 32 0
           ∷ (0x00 ∷ 0x00 ∷ 0x00 ∷ 0x00 ∷ 0xFF ∷ 0xFF ∷ 0xFF ∷ 0xFF ∷ 0x00 ∷ 0x3F ∷ 0xFF ∷ 0xFF ∷ 0xFF ∷ 0xFF ∷ 0xFF ∷ 0xFF ∷ 0 ∷ 0 ∷ 0 ∷ 0
-          ∷ 0x00 ∷ 0x3F ∷ 0xFF ∷ 0xFF ∷ 0 ∷ 0 ∷ 0 ∷ 0 ∷ 0 ∷ 0 ∷ 0 ∷ 0 ∷ [])
+          ∷ 0x00 ∷ 0x3F ∷ 0xFF ∷ 0xFF ∷ 0xFF ∷ 0xFF ∷ 0xFF ∷ 0xFF ∷ 0 ∷ 0 ∷ 0 ∷ 0 ∷ [])
           ∷ []);
     }
 unfolding definitions tables put records-at every-kind
@@ -152,7 +156,7 @@ largest-state =
     ∷ record-of ((0, 4, 4294967295) ∷ (4, 1, 2) ∷ (8, 4, 4294967295) ∷ (12, 4, 4294967295) ∷ (16, 4, 5) ∷ (20, 4, 4294967295) ∷ [])
     ∷ record-of ((5, 1, 1) ∷ (16, 4, 4194303) ∷ []) ∷ record-of []
     ∷ record-of
-    ((0, 4, 4294967295) ∷ (4, 4, 4294967295) ∷ (8, 4, 8) ∷ (12, 4, 4294967295) ∷ (16, 2, 65535) ∷ (18, 1, 3) ∷ (20, 4, 2) ∷ [])
+    ((0, 4, 4294967295) ∷ (4, 4, 4294967295) ∷ (8, 4, 8) ∷ (12, 4, 4294967295) ∷ (16, 2, 65535) ∷ (18, 1, 3) ∷ (20, 4, 2) ∷ (24, 4, 4294967295) ∷ [])
     ∷ record-of [] ∷ record-of ((8, 4, 4194303) ∷ (20, 4, 4194303) ∷ []) ∷ [])
 
 unfoldable pub state-numbers : List (List Field) → List ℕ
@@ -174,12 +178,14 @@ pub point-well :
 unfolding definitions tables put records-at every-kind largest-state state-numbers
 point-well = refl
 
--- The credential, from byte 128: disable 4; spare bytes; zone NONE, one that is not there, a point's number; the last point likewise.
+-- The credential, from byte 128: disable 4; spare bytes; last grant 0, 1, and its largest but one; zone NONE, one that is not there, a point's number; the
+-- last point likewise.
 pub credential-well :
     state-numbers
-    (((146, 1, 0) ∷ []) ∷ ((146, 1, 4) ∷ []) ∷ ((147, 1, 1) ∷ []) ∷ ((152, 1, 1) ∷ []) ∷ ((159, 1, 1) ∷ []) ∷ ((136, 4, 4194303) ∷ [])
+    (((146, 1, 0) ∷ []) ∷ ((146, 1, 4) ∷ []) ∷ ((147, 1, 1) ∷ []) ∷ ((156, 1, 1) ∷ []) ∷ ((157, 1, 1) ∷ []) ∷ ((158, 1, 1) ∷ []) ∷ ((159, 1, 1) ∷ [])
+    ∷ ((152, 4, 0) ∷ []) ∷ ((152, 4, 1) ∷ []) ∷ ((152, 4, 4294967294) ∷ []) ∷ ((136, 4, 4194303) ∷ [])
     ∷ ((136, 4, 9) ∷ []) ∷ ((136, 4, 2) ∷ []) ∷ ((148, 4, 4194303) ∷ []) ∷ ((148, 4, 9) ∷ []) ∷ ((148, 4, 8) ∷ []) ∷ ((148, 4, 3) ∷ []) ∷ [])
-    ≡ 0 ∷ 6 ∷ 6 ∷ 6 ∷ 6 ∷ 0 ∷ 6 ∷ 6 ∷ 0 ∷ 6 ∷ 6 ∷ 0 ∷ []
+    ≡ 0 ∷ 6 ∷ 6 ∷ 6 ∷ 6 ∷ 6 ∷ 6 ∷ 0 ∷ 0 ∷ 0 ∷ 0 ∷ 6 ∷ 6 ∷ 0 ∷ 6 ∷ 6 ∷ 0 ∷ []
 unfolding definitions tables put records-at every-kind largest-state state-numbers
 credential-well = refl
 

@@ -1,4 +1,4 @@
-// What a factor read leaves at the credential: uses, days, zone, last use.
+// What a factor read leaves at the credential: uses, days, zone, last use, last grant.
 ghost use mathlib.Core.Path.{_≡_};
 ghost use Rattle.model.specs.Effects.{zoneAfter, usesAfter, losesDay, daysAfter, credentialAfter};
 use crate::words::date_of;
@@ -38,14 +38,14 @@ pub fn uses_after(v: Situation, x: u16) -> u16
     )
 }
 
-// A grant takes one of limited days at the first use of all, or of a later date.
+// A grant takes one of limited days where it is the first of all, or of a later date than the last one.
 pub fn loses_day(v: Situation, e: Entry, x: u16) -> bool
     ensures { λ r. ⌜ r ≡ losesDay v e x ⌝ }
 {
     (x == GRANTED)
         & (v.credential_state.days != UNLIMITED)
-        & ((v.credential_state.last_use == NEVER)
-            | (date_of(v.credential_state.last_use) < date_of(e.time)))
+        & ((v.credential_state.last_grant == NEVER)
+            | (date_of(v.credential_state.last_grant) < date_of(e.time)))
 }
 
 pub fn days_after(v: Situation, e: Entry, x: u16) -> u16
@@ -72,5 +72,6 @@ pub fn credential_after(v: Situation, e: Entry, x: u16) -> CredentialState
     c.entered = choose_long((x == GRANTED) & is_into_zone(v), e.time, held.entered);
     c.last_event = x;
     c.last_point = point;
+    c.last_grant = choose_long(x == GRANTED, e.time, held.last_grant);
     c
 }

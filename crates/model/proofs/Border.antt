@@ -23,7 +23,7 @@ use Rattle.model.specs.declared.Verdict.{Verdict}
 use Rattle.model.specs.declared.Outcome.{Outcome}
 use Rattle.model.specs.declared.Operation.{Operation}
 use Rattle.model.specs.declared.Operation.the-variants.{Factor, SetCount, AdjustCount, SetDisable, SetService, Unknown}
-use Rattle.model.proofs.Laws.{if-holds, and-left, and-right, only, only-apply, only-store-out, all-found, found}
+use Rattle.model.proofs.Laws.{if-holds, and-left, and-right, kind-at, instance-at, only, only-apply, only-store-out, all-found, found}
 
 -- Two Bools that are compared equal are equal.
 pub beq-is : (m b : Bool) → Bool·beq m b ≡ true → m ≡ b
@@ -31,13 +31,6 @@ beq-is true true h = refl
 beq-is true false h = sym h
 beq-is false true h = h
 beq-is false false h = refl
-
--- A record of a kind and instance has that kind, and that instance.
-pub kind-at : (k i : ℕ) (s : List ℕ) → isAt k i s ≡ true → kind s ≡ k
-kind-at k i s h = eqb-true (kind s) k (and-left _ (eqb (instance s) i) h)
-
-pub instance-at : (k i : ℕ) (s : List ℕ) → isAt k i s ≡ true → instance s ≡ i
-instance-at k i s h = eqb-true (instance s) i (and-right (eqb (kind s) k) _ h)
 
 -- A factor read at a point that is there is not refused.
 factor-refusal : (ps : Panel) (e : Entry) (x : Pair) → factorOutcome ps e x .answer .refusal ≡ n.not-refused

@@ -25,10 +25,10 @@ use Rattle.model.specs.declared.Answer.{Answer}
 use Rattle.model.specs.declared.Outcome.{Outcome}
 use Rattle.model.specs.declared.Operation.{Operation}
 use Rattle.model.specs.declared.Operation.the-variants.{Factor, SetCount, AdjustCount, SetDisable, SetService, Unknown}
-use Rattle.model.proofs.Laws.{if-holds, and-left, and-right, find-in, found, sites-write, sites-apply, all-found-in}
+use Rattle.model.proofs.Laws.{if-holds, and-left, kind-at, find-in, found, sites-write, sites-apply, find-write-other, find-write-same, all-found-in}
 use Rattle.model.proofs.RoundTrip.{count-back, event-back, refusal-back}
 use Rattle.model.proofs.Flat.{freshPanel, sites-fresh}
-use Rattle.model.proofs.Runs.{workedAt, allEntries, accepted, ended-panel, worked-list}
+use Rattle.model.proofs.Runs.{real-number, workedAt, allEntries, accepted, ended-panel, worked-list}
 use Rattle.model.proofs.Whole.{standing-set, standing-up, standing-down}
 
 -- The record is that of zone z, or of point i.
@@ -39,37 +39,6 @@ abbrev isPoint : ℕ → List ℕ → Bool
 isPoint i = isAt n.access-point i
 
 -- ── a zone's count after a write
-
--- A write to records that the test does not pass leaves what is found.
-find-store-other : (q : List ℕ → Bool) (k i : ℕ) (b : List ℕ) → ((s : List ℕ) → isAt k i s ≡ true → q s ≡ false) → (ps : Panel) →
-    findBy q (store k i b ps) ≡ findBy q ps
-unfolding store
-find-store-other q k i b h [] = refl
-find-store-other q k i b h (x ∷ xs) = go (isAt k i (x .0)) refl (find-store-other q k i b h xs)
-  where
-    go : (c : Bool) → isAt k i (x .0) ≡ c → findBy q (store k i b xs) ≡ findBy q xs →
-        findBy q (if c then (x .0, b) ∷ xs else x ∷ store k i b xs) ≡ findBy q (x ∷ xs)
-    go true e ih = rw (h (x .0) e)
-    go false e ih = rw ih
-
--- What is written to a record that is there is found.
-find-store-same : (k i : ℕ) (b : List ℕ) (ps : Panel) → missing (findBy (isAt k i) ps .0) ≡ false → findBy (isAt k i) (store k i b ps) .1 ≡ b
-unfolding store
-find-store-same k i b [] g = cc
-find-store-same k i b (x ∷ xs) g = go (isAt k i (x .0)) refl g (find-store-same k i b xs)
-  where
-    go : (c : Bool) → isAt k i (x .0) ≡ c → missing ((if c then x else findBy (isAt k i) xs) .0) ≡ false →
-        (missing (findBy (isAt k i) xs .0) ≡ false → findBy (isAt k i) (store k i b xs) .1 ≡ b) →
-        findBy (isAt k i) (if c then (x .0, b) ∷ xs else x ∷ store k i b xs) .1 ≡ b
-    go true e g ih = rw e
-    go false e g ih = rw e (ih g)
-
--- A record of another kind or of another instance is not zone z.
-other-kind : (k i z : ℕ) → eqb k n.access-zone ≡ false → (s : List ℕ) → isAt k i s ≡ true → isZone z s ≡ false
-other-kind k i z d s a = rw (eqb-true (kind s) k (and-left (eqb (kind s) k) (eqb (instance s) i) a), d)
-
-other-instance : (k i z : ℕ) → eqb i z ≡ false → (s : List ℕ) → isAt k i s ≡ true → isZone z s ≡ false
-other-instance k i z d s a = rw (eqb-true (instance s) i (and-right (eqb (kind s) k) (eqb (instance s) i) a), d, and-false)
 
 -- Zone z has a record; its count in a panel.
 abbrev There : ℕ → Panel → Type 0
@@ -88,34 +57,19 @@ countBy z o c =
 -- A write to a record of another kind.
 count-other : (z : ℕ) (on : Bool) (k i : ℕ) (b : List ℕ) (ps : Panel) → eqb k n.access-zone ≡ false →
     zoneCount z (write on k i b ps) ≡ zoneCount z ps
-unfolding zoneCount write find
-count-other z on k i b ps d = go (on && not (eqb i NONE))
-  where
-    go : (c : Bool) → count (findBy (isZone z) (if c then store k i b ps else ps) .1) ≡ count (findBy (isZone z) ps .1)
-    go true = rw (find-store-other (isZone z) k i b (other-kind k i z d) ps)
-    go false = refl
+unfolding zoneCount
+count-other z on k i b ps d = ap (λ (x : Pair). count (x .1)) (find-write-other n.access-zone z on k i b ps d)
 
 module _ (z : ℕ) (not-none : eqb z NONE ≡ false) where
   -- A write to a zone's record.
   count-zone : (on : Bool) (i m : ℕ) (ps : Panel) → There z ps →
       zoneCount z (write on n.access-zone i (zoneBytes m) ps) ≡ (if on && eqb i z then m else zoneCount z ps)
-  unfolding zoneCount write find
-  count-zone on i m ps g = go on (eqb i z) refl
+  unfolding zoneCount
+  count-zone on i m ps g = rw (find-write-same n.access-zone z not-none on i (zoneBytes m) ps g) (go (on && eqb i z))
     where
-      other : (c : Bool) → eqb i z ≡ false →
-          count (findBy (isZone z) (if c then store n.access-zone i (zoneBytes m) ps else ps) .1)
-          ≡ count (findBy (isZone z) ps .1)
-      other true e = rw (find-store-other (isZone z) n.access-zone i (zoneBytes m) (other-instance n.access-zone i z e) ps)
-      other false e = refl
-
-      go : (c d : Bool) → eqb i z ≡ d →
-          count (findBy (isZone z) (if c && not (eqb i NONE) then store n.access-zone i (zoneBytes m) ps else ps) .1)
-          ≡ (if c && d then m else count (findBy (isZone z) ps .1))
-      go false d e = refl
-      go true false e = other (not (eqb i NONE)) e
-      go true true e =
-          rw (eqb-true i z e, not-none)
-          (ap count (find-store-same n.access-zone z (zoneBytes m) ps (rw (find-in (isZone z) ps) g)) ∙ count-back m)
+      go : (c : Bool) → count (if c then zoneBytes m else find n.access-zone z ps .1) ≡ (if c then m else count (find n.access-zone z ps .1))
+      go true = count-back m
+      go false = refl
 
   -- The four writes of an outcome.
   count-apply : (o : Outcome) (ps : Panel) → There z ps → zoneCount z (apply o ps) ≡ countBy z o (zoneCount z ps)
@@ -125,17 +79,7 @@ module _ (z : ℕ) (not-none : eqb z NONE ≡ false) where
       let f : There z (write (from .written) n.access-zone (from .instance .0) (zoneBytes (from .count)) ps) = rw sites-write g in
       rw (count-other, count-other, count-zone, count-zone)
 
--- ── what an accepted site says of its zones and points
-
--- The zone's number is not NONE.
-zone-real : (z : ℕ) (ps : Panel) → all inRange (sites ps) ≡ true → There z ps → eqb z NONE ≡ false
-unfolding inRange
-zone-real z ps a g =
-    let s = findIn (isZone z) (sites ps) in
-    let zone : isZone z s ≡ true = rw find-in at (found (isZone z) ps (rw find-in g)) in
-    let numbered : instance s ≡ z = eqb-true (instance s) z (and-right (eqb (kind s) n.access-zone) (eqb (instance s) z) zone) in
-    let small : ltb z NONE ≡ true = rw numbered at (and-left (ltb (instance s) NONE) _ (all-found-in inRange (isZone z) (sites ps) a g)) in
-    ne-eqb z NONE (λ d. omega (arith, ltb-true z NONE small))
+-- ── what an accepted site says of its points
 
 -- A point does not lead from a zone into that zone.
 zones-differ : (z : ℕ) → eqb z NONE ≡ false → (i : ℕ) (s : List ℕ) → isPoint i s ≡ true → inRange s ≡ true →
@@ -145,7 +89,7 @@ zones-differ z not-none i s p r = go (eqb (reference 8 s) z) (eqb (reference 12 
   where
     go : (a b : Bool) → eqb (reference 8 s) z ≡ a → eqb (reference 12 s) z ≡ b → a && b ≡ false
     go true true e f =
-        let k : kind s ≡ n.access-point = eqb-true (kind s) n.access-point (and-left (eqb (kind s) n.access-point) (eqb (instance s) i) p) in
+        let k = kind-at n.access-point i s p in
         sym (simp (k, eqb-true (reference 8 s) z e, eqb-true (reference 12 s) z f, not-none, eq-eqb z z refl, and-false) at r)
     go true false e f = refl
     go false b e f = refl
@@ -317,7 +261,7 @@ fresh-count z (s ∷ ss) = go (isZone z s) refl (fresh-count z ss)
   where
     go : (c : Bool) → isZone z s ≡ c → count (findBy (isZone z) (freshPanel ss) .1) ≡ 0 →
         count ((if c then (s, freshRecord s) else findBy (isZone z) (freshPanel ss)) .1) ≡ 0
-    go true e ih = rw (eqb-true (kind s) n.access-zone (and-left (eqb (kind s) n.access-zone) (eqb (instance s) z) e))
+    go true e ih = rw (kind-at n.access-zone z s e)
     go false e ih = ih
 
 -- Every zone's count, after every list of runs from fresh.
@@ -329,4 +273,4 @@ count-is-tally h z x =
     let a : all inRange (sites ps) ≡ true = rw s (accepted h .in-range) in
     let g : There z ps = rw s (not-true (missing (findIn (isZone z) (records (h .site)))) x) in
     let f : pos (zoneCount z ps) ≡ standing (setTo 0) = rw (fresh-count z (records (h .site))) (standing-set 0) in
-    rw (ended-panel h, worked-list h) (rw s at (count-entries z (zone-real z ps a g) (allEntries h) ps (setTo 0) f a g))
+    rw (ended-panel h, worked-list h) (rw s at (count-entries z (real-number n.access-zone z (sites ps) a g) (allEntries h) ps (setTo 0) f a g))

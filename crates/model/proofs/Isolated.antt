@@ -23,8 +23,8 @@ use Rattle.model.specs.declared.RightsId.{RightsId}
 use Rattle.model.specs.declared.Entry.{Entry}
 use Rattle.model.specs.declared.Operation.{Operation}
 use Rattle.model.specs.declared.Operation.the-variants.{Factor, SetCount, AdjustCount, SetDisable, SetService, Unknown}
-use Rattle.model.proofs.Laws.{and-left, and-right, only, find-only, find-keep, any-keep, sites-only, all-found, found}
-use Rattle.model.proofs.Border.{beq-is, kind-at, side-is, none-side, holds-at, waitInside, pairInside, PointInside, point-inside, number-side, stopped, stoppedEvent, stopped-event, nobody, Alike, alike-same, stopped-alike, Read, halted, taken, read-as, answeredInsideAs, answeredInside, worked-inside}
+use Rattle.model.proofs.Laws.{and-left, and-right, kind-at, only, find-only, find-keep, any-keep, sites-only, all-found, found}
+use Rattle.model.proofs.Border.{beq-is, side-is, none-side, holds-at, waitInside, pairInside, PointInside, point-inside, number-side, stopped, stoppedEvent, stopped-event, nobody, Alike, alike-same, stopped-alike, Read, halted, taken, read-as, answeredInsideAs, answeredInside, worked-inside}
 
 -- What is not there is no factor.
 factor-there : (s : List ℕ) → kind s ≡ n.authentication-factor → missing s ≡ false

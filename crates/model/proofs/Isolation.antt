@@ -17,11 +17,11 @@ use Rattle.model.specs.Demands.{Isolation}
 use Rattle.model.specs.declared.Entry.{Entry}
 use Rattle.model.specs.declared.PointState.{PointState}
 use Rattle.model.specs.declared.Outcome.{Outcome}
-use Rattle.model.proofs.Laws.{and-left, and-right, only, all-write}
+use Rattle.model.proofs.Laws.{and-left, and-right, kind-at, only, all-write}
 use Rattle.model.proofs.RoundTrip.{point-back, refusal-back}
 use Rattle.model.proofs.Flat.{freshPanel, only-fresh}
 use Rattle.model.proofs.Runs.{workedAt, allEntries, ended-panel, worked-list}
-use Rattle.model.proofs.Border.{kind-at, none-side, holds-at, part-apply, Sided, apply-out, waitInside, pairInside, answeredInsideAs, answeredInside, sided}
+use Rattle.model.proofs.Border.{none-side, holds-at, part-apply, Sided, apply-out, waitInside, pairInside, answeredInsideAs, answeredInside, sided}
 use Rattle.model.proofs.Isolated.{outcome-part}
 
 -- An entry with its answer at a panel.

@@ -2,12 +2,13 @@
 use Prim.Native.Nat.{ℕ}
 use mathlib.Core.Path.{_≡_, refl, sym, _∙_}
 use mathlib.Core.List.{List, [], _∷_}
-use mathlib.Core.Bool.{Bool, true, false, not, _&&_, _||_}
+use mathlib.Core.Bool.{Bool, true, false, not, _&&_, _||_, and-false}
 use lib.Dec.{eqb}
+use borrow.Author.Tests.{eqb-true}
 use Rattle.model.specs.Words.{if_then_else_, keep, any, all, missing}
 use Rattle.model.specs.Numbers.{NONE}
-use Rattle.model.specs.Site.{isAt, findIn}
-use Rattle.model.specs.State.{Pair, Panel, findBy, store, write, sites}
+use Rattle.model.specs.Site.{kind, instance, isAt, findIn}
+use Rattle.model.specs.State.{Pair, Panel, findBy, find, store, write, sites}
 use Rattle.model.specs.Step.{apply}
 use Rattle.model.specs.declared.Outcome.{Outcome}
 
@@ -33,6 +34,13 @@ or-left false b h = refl
 pub or-right : (a b : Bool) → a || b ≡ false → b ≡ false
 or-right true b h = cc
 or-right false b h = h
+
+-- A record of a kind and instance has that kind, and that instance.
+pub kind-at : (k i : ℕ) (s : List ℕ) → isAt k i s ≡ true → kind s ≡ k
+kind-at k i s h = eqb-true (kind s) k (and-left _ (eqb (instance s) i) h)
+
+pub instance-at : (k i : ℕ) (s : List ℕ) → isAt k i s ≡ true → instance s ≡ i
+instance-at k i s h = eqb-true (instance s) i (and-right (eqb (kind s) k) _ h)
 
 -- ── what a test on site records keeps of the panel
 
@@ -212,6 +220,55 @@ sites-write on k i b ps = go (on && not (eqb i NONE))
 pub sites-apply : (o : Outcome) (ps : Panel) → sites (apply o ps) ≡ sites ps
 unfolding apply
 sites-apply o ps = simp sites-write
+
+-- what is found after a write: what was found, if the test passes no record that is written
+find-store-other : (q : List ℕ → Bool) (k i : ℕ) (b : List ℕ) → ((s : List ℕ) → isAt k i s ≡ true → q s ≡ false) → (ps : Panel) →
+    findBy q (store k i b ps) ≡ findBy q ps
+unfolding store
+find-store-other q k i b h [] = refl
+find-store-other q k i b h (x ∷ xs) = go (isAt k i (x .0)) refl (find-store-other q k i b h xs)
+  where
+    go : (c : Bool) → isAt k i (x .0) ≡ c → findBy q (store k i b xs) ≡ findBy q xs →
+        findBy q (if c then (x .0, b) ∷ xs else x ∷ store k i b xs) ≡ findBy q (x ∷ xs)
+    go true e ih = rw (h (x .0) e)
+    go false e ih = rw ih
+
+-- and what is written to a record that is there
+find-store-same : (k i : ℕ) (b : List ℕ) (ps : Panel) → missing (findBy (isAt k i) ps .0) ≡ false → findBy (isAt k i) (store k i b ps) .1 ≡ b
+unfolding store
+find-store-same k i b [] g = cc
+find-store-same k i b (x ∷ xs) g = go (isAt k i (x .0)) refl g (find-store-same k i b xs)
+  where
+    go : (c : Bool) → isAt k i (x .0) ≡ c → missing ((if c then x else findBy (isAt k i) xs) .0) ≡ false →
+        (missing (findBy (isAt k i) xs .0) ≡ false → findBy (isAt k i) (store k i b xs) .1 ≡ b) →
+        findBy (isAt k i) (if c then (x .0, b) ∷ xs else x ∷ store k i b xs) .1 ≡ b
+    go true e g ih = rw e
+    go false e g ih = rw e (ih g)
+
+-- the record of kind m and number j, after a write to a record of another kind
+pub find-write-other : (m j : ℕ) (on : Bool) (k i : ℕ) (b : List ℕ) (ps : Panel) → eqb k m ≡ false → find m j (write on k i b ps) ≡ find m j ps
+unfolding write find
+find-write-other m j on k i b ps d = go (on && not (eqb i NONE))
+  where
+    go : (c : Bool) → findBy (isAt m j) (if c then store k i b ps else ps) ≡ findBy (isAt m j) ps
+    go true = find-store-other (isAt m j) k i b (λ s a. rw (kind-at k i s a, d)) ps
+    go false = refl
+
+-- and to one of its kind
+pub find-write-same : (m j : ℕ) → eqb j NONE ≡ false → (on : Bool) (i : ℕ) (b : List ℕ) (ps : Panel) →
+    missing (findIn (isAt m j) (sites ps)) ≡ false → find m j (write on m i b ps) .1 ≡ (if on && eqb i j then b else find m j ps .1)
+unfolding write find
+find-write-same m j not-none on i b ps g = go on (eqb i j) refl
+  where
+    other : (c : Bool) → eqb i j ≡ false → findBy (isAt m j) (if c then store m i b ps else ps) .1 ≡ findBy (isAt m j) ps .1
+    other true e = rw (find-store-other (isAt m j) m i b (λ s a. rw (instance-at m i s a, e, and-false)) ps)
+    other false e = refl
+
+    go : (c d : Bool) → eqb i j ≡ d →
+        findBy (isAt m j) (if c && not (eqb i NONE) then store m i b ps else ps) .1 ≡ (if c && d then b else findBy (isAt m j) ps .1)
+    go false d e = refl
+    go true false e = other (not (eqb i NONE)) e
+    go true true e = rw (eqb-true i j e, not-none) (find-store-same m j b ps (rw (find-in (isAt m j) ps) g))
 
 -- what all site records pass, the found one passes
 pub all-found-in : (t q : List ℕ → Bool) (ss : List (List ℕ)) → all t ss ≡ true → missing (findIn q ss) ≡ false → t (findIn q ss) ≡ true

@@ -54,6 +54,7 @@ credential-back c =
       «last_event» = back 1 (c .«last_event») i;
       disable = back 0 (c .disable) i;
       «last_point» = pointId (back 3 (c .«last_point» .0) i);
+      «last_grant» = back 3 (c .«last_grant») i;
     }
 
 pub event-back : (a : Answer) → eventIn (answerBytes a) ≡ a .event

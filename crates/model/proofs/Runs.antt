@@ -6,16 +6,17 @@ use mathlib.Core.List.{List, [], _∷_, _++_, map, map-append, flatten}
 use mathlib.Core.Bool.{Bool, true, false, not, _||_}
 use lib.Dec.{ltb, eqb}
 use lib.ListN.{length}
-use borrow.Author.Tests.{eqb-true, not-false}
-use Rattle.model.specs.Words.{if_then_else_, all}
-use Rattle.model.specs.Site.{records}
+use borrow.Author.Tests.{eqb-true, ne-eqb, ltb-true, not-false}
+use Rattle.model.specs.Words.{if_then_else_, all, missing}
+use Rattle.model.specs.Numbers.{NONE}
+use Rattle.model.specs.Site.{records, instance, isAt, findIn}
 use Rattle.model.specs.Accept.{inRange, twice, namesExist}
 use Rattle.model.specs.State.{Panel, panel, stateOf, fresh}
 use Rattle.model.specs.Entry.{entryOf, entries, answerBytes}
 use Rattle.model.specs.Step.{apply, entryOutcome, panels, after, answers}
 use Rattle.model.specs.Calls.{isWorked, checkSite, freshReturned, freshState, runReturned, runJournal}
 use Rattle.model.specs.Lists.{Run, runOn, stateAfter, Worked, withAnswers, answersIn, workedBy, workedIn, History, begun, ended, worked}
-use Rattle.model.proofs.Laws.{or-left}
+use Rattle.model.proofs.Laws.{and-left, or-left, instance-at, all-found-in, found-in}
 use Rattle.model.proofs.RoundTrip.{length-answer}
 use Rattle.model.proofs.Flat.{Sized, length-flatten, groups-flatten, panel-back, length-back, freshPanel, panel-fresh, length-fresh}
 use Rattle.model.specs.declared.Entry.{Entry}
@@ -50,6 +51,15 @@ site-accepted site h =
       not-twice = t .0;
       names-exist = not-false (all (namesExist (records site)) (records site)) (m .0);
     }
+
+-- No object of it has the number NONE.
+pub real-number : (k i : ℕ) (ss : List (List ℕ)) → all inRange ss ≡ true → missing (findIn (isAt k i) ss) ≡ false → eqb i NONE ≡ false
+unfolding inRange
+real-number k i ss a g =
+    let s = findIn (isAt k i) ss in
+    let numbered : instance s ≡ i = instance-at k i s (found-in (isAt k i) ss g) in
+    let small : ltb i NONE ≡ true = rw numbered at (and-left (ltb (instance s) NONE) _ (all-found-in inRange (isAt k i) ss a g)) in
+    ne-eqb i NONE (λ d. omega (arith, ltb-true i NONE small))
 
 -- What is worked through returned no refusal.
 pub worked-through : (r : Returned) → isWorked r ≡ true → r ≡ WorkedThrough

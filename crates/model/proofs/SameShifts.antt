@@ -25,11 +25,10 @@ use Rattle.model.specs.declared.CredentialId.{CredentialId}
 use Rattle.model.specs.declared.RightsId.{RightsId}
 use Rattle.model.specs.declared.Entry.{Entry}
 use Rattle.model.specs.declared.Outcome.{Outcome}
-use Rattle.model.proofs.Laws.{and-left, and-right, only, only-apply, find-only, sites-only, find-keep, sites-apply}
+use Rattle.model.proofs.Laws.{and-left, and-right, kind-at, only, only-apply, find-only, sites-only, find-keep, sites-apply}
 use Rattle.model.proofs.SameOutcome.{Agree, outcome-agree}
 use Rattle.model.proofs.Flat.{sites-panel, freshPanel, only-fresh, panel-fresh}
 use Rattle.model.proofs.Runs.{site-accepted, workedAt, list-panel, list-worked}
-use Rattle.model.proofs.Border.{kind-at}
 use Rattle.model.proofs.KeptWell.{runEntries, state-taken, taken-state, list-well, fresh-taken}
 use Rattle.model.proofs.Shifts.{whole-rule, Like, until-like, since-like, fits-halves, shift-rule}
 

@@ -20,9 +20,8 @@ use Rattle.model.specs.declared.RecordKind.{RecordKind}
 use Rattle.model.specs.declared.RecordKind.the-variants.{OfZone, OfPoint, OfRule, OfCredential, OfFactor, OfUnknown}
 use Rattle.model.specs.declared.Returned.{Returned}
 use Rattle.model.specs.declared.Returned.the-variants.{WorkedThrough, SiteLength, SiteField, SiteTwice, SiteMissing}
-use Rattle.model.proofs.Laws.{and-left, and-right, find-keep, any-keep}
+use Rattle.model.proofs.Laws.{and-left, and-right, kind-at, find-keep, any-keep}
 use Rattle.model.proofs.Flat.{Sized}
-use Rattle.model.proofs.Border.{kind-at}
 use Rattle.model.proofs.Shifts.{RuleRange, rule-range, rule-location, whole-rule, Like, until-like, since-like, range-halves, shift-rule}
 use Rattle.model.proofs.SameShifts.{kind-not-rule, any-same}
 

@@ -15,10 +15,9 @@ use Rattle.model.specs.Site.{credentialId, kind, recordKind, disableGive
 use Rattle.model.specs.Accept.{clear, exists, noneOrExists, inRange, credentialInRange, namesExist}
 use Rattle.model.specs.State.{Pair, Panel, findBy, find, seek, zoneBytes, pointStateOf, pointBytes, credentialStateOf, credentialBytes, freshPoint, freshWith, freshCredential, freshRecordAs, freshRecord, zoneWell, failuresWell, pointWell, credentialWell, recordWellAs, recordWell}
 use Rattle.model.specs.Checks.{identifying, confirming, factorFor, credentialRead}
-use Rattle.model.proofs.Laws.{if-holds, and-left, and-right}
+use Rattle.model.proofs.Laws.{if-holds, and-left, and-right, kind-at}
 use Rattle.model.proofs.RoundTrip.{point-back, credential-back}
 use Rattle.model.proofs.Flat.{freshPanel}
-use Rattle.model.proofs.Border.{kind-at}
 use Rattle.model.specs.declared.CredentialId.{CredentialId}
 use Rattle.model.specs.declared.PointState.{PointState}
 use Rattle.model.specs.declared.CredentialState.{CredentialState}
@@ -101,7 +100,7 @@ unfolding clear pointBytes digits same
 spare-point p = refl
 
 -- The unnamed bytes of a credential's state are zero.
-spare-credential : (c : CredentialState) → clear 19 1 (credentialBytes c) && clear 24 8 (credentialBytes c) ≡ true
+spare-credential : (c : CredentialState) → clear 19 1 (credentialBytes c) && clear 28 4 (credentialBytes c) ≡ true
 unfolding clear credentialBytes digits same
 spare-credential c = refl
 

@@ -15,8 +15,7 @@ use Rattle.model.specs.Entry.{operationOf, objectKind, inForm}
 use Rattle.model.specs.Checks.{relinquished, stillLocked, authenticationOf, intoZone, eventOf}
 use Rattle.model.specs.Effects.{isFailure, failuresBefore, failuresWith, locksOut, pointAfter, zoneAfter, credentialAfter, outcomeWith, outcomeOf}
 use Rattle.model.specs.Step.{noPoint, noCredential, unchanged, refuse, factorRead, numberRead, credentialAt, situationOf, rulesAt, factorOutcome, countOutcome, adjusted, adjustOutcome, disableAfter, disableOutcome, locks, serviceAfter, serviceOutcome, workedOutcome, outcomeAs, entryOutcome, apply, after}
-use Rattle.model.proofs.Laws.{if-holds, and-left, and-right, or-right, find-in, all-write, sites-write, sites-apply}
-use Rattle.model.proofs.Border.{kind-at}
+use Rattle.model.proofs.Laws.{if-holds, and-left, and-right, or-right, kind-at, find-in, all-write, sites-write, sites-apply}
 use Rattle.model.proofs.Well.{none-fits, exists-fits, no-failures, if-fails, PointSound, CredentialSound, fresh-point, fresh-credential, zone-well, point-well, credential-well, point-found, credential-found, credential-sought, to-fits, number-fits}
 use Rattle.model.specs.declared.ZoneId.{ZoneId}
 use Rattle.model.specs.declared.CredentialId.{CredentialId}

@@ -1,7 +1,7 @@
 -- What is proved over the definitions, by `freshState` and `runJournal` themselves: each statement is a type, and proofs/ has a theorem of it. The
--- count, the part and the well-formed state are about whole lists of runs from fresh, rewritten shifts about lists of runs on any state; the others
--- about every site, state and run.
-use Prim.Native.Nat.{ℕ, suc, _/_, _<_}
+-- count, the part, the well-formed state and the days are about whole lists of runs from fresh, rewritten shifts about lists of runs on any state; the
+-- others about every site, state and run.
+use Prim.Native.Nat.{ℕ, suc, _+_, _/_, _<_}
 use mathlib.Core.Path.{_≡_}
 use mathlib.Core.List.{List, [], map}
 use mathlib.Core.Bool.{Bool, true, false, not, _&&_, _||_}
@@ -22,6 +22,7 @@ use Rattle.model.specs.Tally.{standing, tallyOf, countOf}
 use Rattle.model.specs.Part.{Part, SelfContained, partRecords, partEntries, partAnswers, partState}
 use Rattle.model.specs.Earned.{Earned}
 use Rattle.model.specs.Shifts.{isShift, untilMidnight, sinceMidnight, Halved, Rewritten}
+use Rattle.model.specs.DayPasses.{timesGranted, datesGranted, daysSold, stateLeft, lastTime, daysTaken, neverFall, different}
 use Rattle.model.specs.declared.Returned.{Returned}
 use Rattle.model.specs.declared.Returned.the-variants.{WorkedThrough, SiteLength, StateForm}
 use Rattle.model.specs.declared.Operation.the-variants.{Factor}
@@ -105,3 +106,22 @@ unfoldable pub AcceptedShifts : Type 0
 AcceptedShifts =
     (site other : List ℕ) → returnsOther SiteLength (checkSite site) ≡ true → returnsOther SiteLength (checkSite other) ≡ true → Halved (records site) (records other) →
     checkSite site ≡ checkSite other
+
+-- Day passes (document 02, job 5), after every list from fresh and whatever the clock does: last grant is the time of the credential's last grant, "never
+-- when fresh, set by each grant".
+unfoldable pub LastGrant : Type 0
+LastGrant =
+    (h : History) (c : ℕ) → exists (records (h .site)) n.access-credential c ≡ true → stateLeft c h .«last_grant» ≡ lastTime (timesGranted c h)
+
+-- Of limited days, its days left and the days that its grants took, read from the answers, come to its days in the site.
+unfoldable pub DaysTaken : Type 0
+DaysTaken =
+    (h : History) (c : ℕ) → exists (records (h .site)) n.access-credential c ≡ true → daysSold c h < n.UNLIMITED →
+    stateLeft c h .days + daysTaken (datesGranted c h) ≡ daysSold c h
+
+-- And beyond the request, for the estates: as long as the dates of its grants never fall, its days left and the number of different dates on which it was
+-- granted come to its days in the site.
+unfoldable pub DaysOfAdmission : Type 0
+DaysOfAdmission =
+    (h : History) (c : ℕ) → exists (records (h .site)) n.access-credential c ≡ true → daysSold c h < n.UNLIMITED →
+    neverFall (datesGranted c h) ≡ true → stateLeft c h .days + different (datesGranted c h) ≡ daysSold c h

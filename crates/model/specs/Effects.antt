@@ -101,17 +101,18 @@ usesAfter v x =
 unfoldable pub date : ℕ → ℕ
 date time = time / n.seconds-of-day
 
--- "Limited days lose 1 if never used before, or if today's date .. is later than the earlier last use's."
+-- Document 02, job 5: "A grant takes one of limited days if the card has no earlier grant or today's date is later than the last grant's."
 unfoldable pub losesDay : Situation → Entry → ℕ → Bool
 losesDay v e x =
     eqb x n.granted && not (eqb (v .«credential_state» .days) UNLIMITED)
-    && (eqb (v .«credential_state» .«last_use») NEVER || ltb (date (v .«credential_state» .«last_use»)) (date (e .time)))
+    && (eqb (v .«credential_state» .«last_grant») NEVER || ltb (date (v .«credential_state» .«last_grant»)) (date (e .time)))
 
--- "Limited days lose 1".
+-- "takes one of limited days".
 unfoldable pub daysAfter : Situation → Entry → ℕ → ℕ
 daysAfter v e x = if losesDay v e x then v .«credential_state» .days - 1 else v .«credential_state» .days
 
--- "entered is now if there is a Zone_To." "It gets last use, event and point, unless the event is 0."
+-- "entered is now if there is a Zone_To." "It gets last use, event and point, unless the event is 0." Document 02, job 5: last grant is "set by each
+-- grant".
 unfoldable pub credentialAfter : Situation → Entry → ℕ → CredentialState
 credentialAfter v e x =
     record {
@@ -123,6 +124,7 @@ credentialAfter v e x =
       «last_event» = x;
       disable = v .«credential_state» .disable;
       «last_point» = pointId (e .instance);
+      «last_grant» = if eqb x n.granted then e .time else v .«credential_state» .«last_grant»;
     }
 
 -- ── marks

@@ -14,4 +14,5 @@ pub mod Tally
 pub mod Part
 pub mod Earned
 pub mod Shifts
+pub mod DayPasses
 pub mod Demands

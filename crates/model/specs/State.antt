@@ -48,7 +48,7 @@ pointBytes p =
     ++ digits 4 (p .«first_failure») ++ digits 4 (p .«waiting_credential» .0) ++ digits 4 (p .«waiting_since») ++ zeros 8
 
 -- "Credential: 0 uses, 2 days (2 each), 4 last use, 8 zone, 12 entered (4 each), 16 last event (2), 18 disable (1), 20 last
--- point (4)."
+-- point (4)." Document 02, job 5: "The credential's state gains last grant at offset 24 (4 bytes, .. older states' zeros are time 0)."
 unfoldable pub credentialStateOf : List ℕ → CredentialState
 credentialStateOf t =
     record {
@@ -60,13 +60,15 @@ credentialStateOf t =
       «last_event» = field 16 2 t;
       disable = field 18 1 t;
       «last_point» = pointId (reference 20 t);
+      «last_grant» = field 24 4 t;
     }
 
 -- The bytes of that record.
 unfoldable pub credentialBytes : CredentialState → List ℕ
 credentialBytes c =
     digits 2 (c .uses) ++ digits 2 (c .days) ++ digits 4 (c .«last_use») ++ digits 4 (c .zone .0) ++ digits 4 (c .entered)
-    ++ digits 2 (c .«last_event») ++ digits 1 (c .disable) ++ zeros 1 ++ digits 4 (c .«last_point» .0) ++ zeros 8
+    ++ digits 2 (c .«last_event») ++ digits 1 (c .disable) ++ zeros 1 ++ digits 4 (c .«last_point» .0)
+    ++ digits 4 (c .«last_grant») ++ zeros 4
 
 -- ── the panel: the site records, each with its state record, in file order
 
@@ -140,7 +142,8 @@ freshPoint =
       «waiting_since» = 0;
     }
 
--- A credential of these uses, days and disable: "references NONE; last use and entered never; else zero".
+-- A credential of these uses, days and disable: "references NONE; last use and entered never; else zero". Document 02, job 5: last grant is "never when
+-- fresh".
 unfoldable pub freshWith : ℕ → ℕ → ℕ → CredentialState
 freshWith uses days disable =
     record {
@@ -152,6 +155,7 @@ freshWith uses days disable =
       «last_event» = 0;
       disable = disable;
       «last_point» = pointId NONE;
+      «last_grant» = NEVER;
     }
 
 -- "uses, days, disable from the site".
@@ -196,7 +200,7 @@ pointWell ss s t =
 -- A credential: "unnamed bytes zero, fields in range, references NONE or existing".
 unfoldable pub credentialWell : List (List ℕ) → List ℕ → Bool
 credentialWell ss t =
-    leb (credentialStateOf t .disable) largest-disable && clear 19 1 t && clear 24 8 t
+    leb (credentialStateOf t .disable) largest-disable && clear 19 1 t && clear 28 4 t
     && noneOrExists ss access-zone (credentialStateOf t .zone .0)
     && noneOrExists ss access-point (credentialStateOf t .«last_point» .0)
 

@@ -145,6 +145,7 @@ disableAfter c disable =
       «last_event» = c .«last_event»;
       disable = disable;
       «last_point» = c .«last_point»;
+      «last_grant» = c .«last_grant»;
     }
 
 -- "4. Set a credential's disable to the argument."

@@ -205,9 +205,11 @@ pub const CREDENTIAL_STATE_SPARE_BYTE: usize = 19;
 
 pub const CREDENTIAL_STATE_LAST_POINT: usize = 20;
 
-pub const CREDENTIAL_STATE_SPARE: usize = 24;
+pub const CREDENTIAL_STATE_LAST_GRANT: usize = 24;
 
-pub const CREDENTIAL_STATE_SPARE_SIZE: usize = 8;
+pub const CREDENTIAL_STATE_SPARE: usize = 28;
+
+pub const CREDENTIAL_STATE_SPARE_SIZE: usize = 4;
 
 // An entry.
 pub const ENTRY_OPERATION: usize = 0;

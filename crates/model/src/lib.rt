@@ -86,6 +86,7 @@ pub struct CredentialState {
     pub last_event: u16,
     pub disable: u8,
     pub last_point: PointId,
+    pub last_grant: u32,
 }
 
 // A journal entry of 24 bytes; `spare` is bytes 2 and 3.

@@ -1,6 +1,7 @@
 // The fields of state records: read, fresh, and written. A writer is lent the record's own 32 bytes, and writes all of them.
 ghost use mathlib.Core.Path.{_≡_};
 ghost use lib.ListN.{length};
+ghost use Rattle.octets.specs.Octets.{put};
 ghost use Rattle.model.specs.Words.{zeros};
 ghost use Rattle.model.specs.State as State;
 ghost use Rattle.model.specs.State.{zoneBytes, pointStateOf, pointBytes, credentialStateOf, credentialBytes, freshPoint, freshWith};
@@ -67,6 +68,7 @@ pub fn credential_state_of(part: &[u8]) -> CredentialState
         last_event: short_at(part, layout::CREDENTIAL_STATE_LAST_EVENT),
         disable: byte_at(part, layout::CREDENTIAL_STATE_DISABLE),
         last_point: PointId(reference_at(part, layout::CREDENTIAL_STATE_LAST_POINT)),
+        last_grant: long_at(part, layout::CREDENTIAL_STATE_LAST_GRANT),
     }
 }
 
@@ -86,7 +88,7 @@ pub fn fresh_point() -> PointState
     }
 }
 
-// A credential that has not been used.
+// A credential that has not been used or granted.
 pub fn fresh_credential(uses: u16, days: u16, disable: u8) -> CredentialState
     ensures { λ r. ⌜ r ≡ freshWith uses days disable ⌝ }
 {
@@ -99,6 +101,7 @@ pub fn fresh_credential(uses: u16, days: u16, disable: u8) -> CredentialState
         last_event: 0,
         disable: disable,
         last_point: PointId(NONE),
+        last_grant: NEVER,
     }
 }
 
@@ -143,17 +146,26 @@ pub fn write_point(part: &mut [u8], p: PointState)
     octets::put_u32(part, layout::POINT_STATE_WAITING_SINCE, p.waiting_since);
 }
 
+// What is left of a credential's uses and days.
+pub fn write_remaining(part: &mut [u8], uses: u16, days: u16)
+    requires { ⌜ length (now part) ≡ 32 ⌝ }
+    ensures { λ _. ⌜ now (part .exit) ≡ put 2 2 days (put 0 2 uses (now (part .entry))) ⌝ }
+{
+    octets::put_u16(part, layout::CREDENTIAL_STATE_USES, uses);
+    octets::put_u16(part, layout::CREDENTIAL_STATE_DAYS, days);
+}
+
 pub fn write_credential(part: &mut [u8], c: CredentialState)
     requires { ⌜ length (now part) ≡ 32 ⌝ }
     ensures { λ _. ⌜ now (part .exit) ≡ credentialBytes c ⌝ }
 {
     write_zeros(part);
-    octets::put_u16(part, layout::CREDENTIAL_STATE_USES, c.uses);
-    octets::put_u16(part, layout::CREDENTIAL_STATE_DAYS, c.days);
+    write_remaining(part, c.uses, c.days);
     octets::put_u32(part, layout::CREDENTIAL_STATE_LAST_USE, c.last_use);
     octets::put_u32(part, layout::CREDENTIAL_STATE_ZONE, c.zone.0);
     octets::put_u32(part, layout::CREDENTIAL_STATE_ENTERED, c.entered);
     octets::put_u16(part, layout::CREDENTIAL_STATE_LAST_EVENT, c.last_event);
     octets::put_u8(part, layout::CREDENTIAL_STATE_DISABLE, c.disable);
     octets::put_u32(part, layout::CREDENTIAL_STATE_LAST_POINT, c.last_point.0);
+    octets::put_u32(part, layout::CREDENTIAL_STATE_LAST_GRANT, c.last_grant);
 }

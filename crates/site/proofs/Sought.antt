@@ -11,8 +11,7 @@ use Rattle.model.specs.Numbers.{access-rule, authentication-factor, role-identi
 use Rattle.model.specs.Site.{kind, role, isAt, findIn}
 use Rattle.model.specs.Accept.{twins}
 use Rattle.model.specs.Checks.{presents, identifying, confirming}
-use Rattle.model.proofs.Laws.{and-left}
-use Rattle.model.proofs.Border.{kind-at}
+use Rattle.model.proofs.Laws.{and-left, kind-at}
 use Rattle.index.specs.Index.{ByInstance, objectBucket, factorBucket, bucketOf}
 use Rattle.index.proofs.Buckets.{object-bucket, identifying-bucket, confirming-bucket, twins-bucket}
 use Rattle.site.specs.Place.{placeFrom}

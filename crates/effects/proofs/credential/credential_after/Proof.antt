@@ -5,4 +5,4 @@ use Rattle.effects.proofs.credential.credential_after.Tie as tie
 
 pub credential-after-spec : {M : Type 1} → statement M
 unfolding credentialAfter
-credential-after-spec = tie.close (tie.spec (λ c κs. tt) (λ c κs. tt) (λ c κs. tt) (λ c κs. tt) (λ c κs. tt) (λ c. cc))
+credential-after-spec = tie.close (tie.spec (λ c κs. tt) (λ c κs. tt) (λ c κs. tt) (λ c κs. tt) (λ c κs. tt) (λ c κs. tt) (λ c. cc))

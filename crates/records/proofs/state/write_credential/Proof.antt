@@ -18,14 +18,14 @@ returns c =
     let w = v .before .before .before .before in
     let x = w .before .before .before .before in
     rw (
-      p .put-u324 .ensures,
-      q .put-u8 .ensures,
-      r .put-u163 .ensures,
-      s .put-u323 .ensures,
-      t .put-u322 .ensures,
-      u .put-u32 .ensures,
-      v .put-u162 .ensures,
-      w .put-u16 .ensures,
+      p .put-u325 .ensures,
+      q .put-u324 .ensures,
+      r .put-u8 .ensures,
+      s .put-u16 .ensures,
+      t .put-u323 .ensures,
+      u .put-u322 .ensures,
+      v .put-u32 .ensures,
+      w .write-remaining .ensures,
       x .write-zeros .ensures,
     )
 
