@@ -25,9 +25,9 @@ use Rattle.model.specs.declared.Answer.{Answer}
 use Rattle.model.specs.declared.Outcome.{Outcome}
 use Rattle.model.specs.declared.Operation.{Operation}
 use Rattle.model.specs.declared.Operation.the-variants.{Factor, SetCount, AdjustCount, SetDisable, SetService, Unknown}
-use Rattle.model.proofs.Laws.{if-holds, and-left, kind-at, find-in, found, sites-write, sites-apply, find-write-other, find-write-same, all-found-in}
+use Rattle.model.proofs.Laws.{if-holds, and-left, kind-at, find-in, found, sites-write, sites-apply, find-write-other, find-write-same, all-found-in, found-in}
 use Rattle.model.proofs.RoundTrip.{count-back, event-back, refusal-back}
-use Rattle.model.proofs.Flat.{freshPanel, sites-fresh}
+use Rattle.model.proofs.Flat.{freshPanel, sites-fresh, find-fresh}
 use Rattle.model.proofs.Runs.{real-number, workedAt, allEntries, accepted, ended-panel, worked-list}
 use Rattle.model.proofs.Whole.{standing-set, standing-up, standing-down}
 
@@ -254,15 +254,9 @@ module _ (z : ℕ) (not-none : eqb z NONE ≡ false) where
 -- ── lists of runs from fresh
 
 -- Every zone's count is 0 in the fresh state.
-fresh-count : (z : ℕ) (ss : List (List ℕ)) → zoneCount z (freshPanel ss) ≡ 0
+fresh-count : (z : ℕ) (ss : List (List ℕ)) → missing (findIn (isZone z) ss) ≡ false → zoneCount z (freshPanel ss) ≡ 0
 unfolding zoneCount find freshRecord field
-fresh-count z [] = refl
-fresh-count z (s ∷ ss) = go (isZone z s) refl (fresh-count z ss)
-  where
-    go : (c : Bool) → isZone z s ≡ c → count (findBy (isZone z) (freshPanel ss) .1) ≡ 0 →
-        count ((if c then (s, freshRecord s) else findBy (isZone z) (freshPanel ss)) .1) ≡ 0
-    go true e ih = rw (kind-at n.access-zone z s e)
-    go false e ih = ih
+fresh-count z ss g = rw (find-fresh (isZone z) ss g, kind-at n.access-zone z (findIn (isZone z) ss) (found-in (isZone z) ss g))
 
 -- Every zone's count, after every list of runs from fresh.
 pub count-is-tally : Count
@@ -271,6 +265,7 @@ count-is-tally h z x =
     let ps = freshPanel (records (h .site)) in
     let s : sites ps ≡ records (h .site) = sites-fresh (records (h .site)) in
     let a : all inRange (sites ps) ≡ true = rw s (accepted h .in-range) in
-    let g : There z ps = rw s (not-true (missing (findIn (isZone z) (records (h .site)))) x) in
-    let f : pos (zoneCount z ps) ≡ standing (setTo 0) = rw (fresh-count z (records (h .site))) (standing-set 0) in
+    let y = not-true (missing (findIn (isZone z) (records (h .site)))) x in
+    let g : There z ps = rw s y in
+    let f : pos (zoneCount z ps) ≡ standing (setTo 0) = rw (fresh-count z (records (h .site)) y) (standing-set 0) in
     rw (ended-panel h, worked-list h) (rw s at (count-entries z (real-number n.access-zone z (sites ps) a g) (allEntries h) ps (setTo 0) f a g))

@@ -10,9 +10,9 @@ use lib.Seq.{take-at, drop-at, length-take-le}
 use borrow.Author.Tests.{eqb-true}
 use Rattle.octets.specs.Octets.{groups}
 use Rattle.octets.proofs.Groups.{length-groups, joined-back}
-use Rattle.model.specs.Words.{if_then_else_, keep, all}
-use Rattle.model.specs.Site.{recordKind, records}
-use Rattle.model.specs.State.{Pair, Panel, paired, panel, sites, stateOf, freshPoint, freshCredential, freshRecordAs, freshRecord, fresh}
+use Rattle.model.specs.Words.{if_then_else_, keep, all, missing}
+use Rattle.model.specs.Site.{recordKind, findIn, records}
+use Rattle.model.specs.State.{Pair, Panel, paired, panel, sites, stateOf, findBy, freshPoint, freshCredential, freshRecordAs, freshRecord, fresh}
 use Rattle.model.specs.Step.{apply, entryOutcome, after}
 use Rattle.model.proofs.Laws.{and-left, and-right, only, all-write, sites-apply}
 use Rattle.model.proofs.RoundTrip.{length-zone, length-point, length-credential}
@@ -165,6 +165,16 @@ only-fresh w (s ∷ ss) = go (w s) (only-fresh w ss)
         (if c then (s, freshRecord s) ∷ only w (freshPanel ss) else only w (freshPanel ss)) ≡ freshPanel (if c then s ∷ keep w ss else keep w ss)
     go true ih = ap (λ ps. (s, freshRecord s) ∷ ps) ih
     go false ih = ih
+
+-- What is found in it is the fresh record of what is found in the site.
+pub find-fresh : (q : List ℕ → Bool) (ss : List (List ℕ)) → missing (findIn q ss) ≡ false → findBy q (freshPanel ss) .1 ≡ freshRecord (findIn q ss)
+find-fresh q [] g = cc
+find-fresh q (s ∷ ss) g = go (q s) g (find-fresh q ss)
+  where
+    go : (c : Bool) → missing (if c then s else findIn q ss) ≡ false → (missing (findIn q ss) ≡ false → findBy q (freshPanel ss) .1 ≡ freshRecord (findIn q ss)) →
+        (if c then (s, freshRecord s) else findBy q (freshPanel ss)) .1 ≡ freshRecord (if c then s else findIn q ss)
+    go true g ih = refl
+    go false g ih = ih g
 
 pub length-freshRecord : (s : List ℕ) → length (freshRecord s) ≡ 32
 unfolding freshRecord

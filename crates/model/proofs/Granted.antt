@@ -343,6 +343,12 @@ granted-situation ps e p s d h =
     positive : (k : ℕ) → eqb k 0 ≡ false → 0 < k
     positive k h = let x = eqb-false k 0 h in omega arith
 
+-- Its credential has days left, in every state.
+pub granted-days : (ps : Panel) (e : Entry) (p : Pair) → eventOf (situationOf ps e p) (rulesAt ps e p) e ≡ 1 →
+    eqb (situationOf ps e p .«credential_state» .days) 0 ≡ false
+unfolding rulesAt situationOf said
+granted-days ps e p h = passed-all (situationOf ps e p) (sites ps) e h .is-valid .days
+
 -- An entry that is answered with event 1: a factor read at a point in service, whose order of checks came to 1.
 record Grant (o : Operation) (ps : Panel) (e : Entry) (x : Pair) (credential : CredentialId) : Type 0 where
   is-factor : o ≡ Factor

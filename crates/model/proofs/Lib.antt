@@ -24,4 +24,5 @@ pub mod SameShifts
 pub mod ShiftsAccepted
 pub mod Untouched
 pub mod Granted
+pub mod DayPasses
 pub mod Instances
