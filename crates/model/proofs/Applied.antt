@@ -10,6 +10,7 @@ use Rattle.model.specs.State.{wellFormed}
 use Rattle.model.specs.Calls.{number}
 use Rattle.model.specs.Lists.{History, runOn, returns, begun, ended, answersIn, firstOf, refusalIn}
 use Rattle.model.specs.Tally.{smaller, move, setTo, signed, passed, tallied, tally, tallyOf, standing, countOf}
+use Rattle.model.specs.DayPasses.{isGrantOf, grantTimes, timesGranted, datesGranted, daysInSite, stateLeft, lastOf, takenSince, daysTaken, neverFall, different}
 use Rattle.model.proofs.Open.{definitions}
 use Rattle.model.proofs.Build.{zone, point, lockingPoint, credential, absentCredential, masterCredential, card, read, setCount, adjust, lock, cut, runOf, events, run, history, examples}
 use Rattle.model.proofs.Parts.{part, nothing, isolationTests, parts}
@@ -112,3 +113,32 @@ pub full :
     events (runOf (zone 7 0 ∷ point 1 8 1 1 7 NONE ∷ masterCredential 5 ∷ card 5 55 ∷ []) (setCount 7 4294967295 ∷ read 1 1 55 ∷ [])) ≡ 0 ∷ 164 ∷ []
 unfolding definitions examples
 full = refl
+
+-- ── day passes
+
+-- A pass of three days. Point 3 denies all, point 2 grants: denied at 8:00, granted at 10:00 and at 17:00, on the next date denied and granted.
+unfoldable pub guest : History
+unfolding definitions examples
+guest =
+    history (point 2 0 1 1 NONE NONE ∷ point 3 0 2 1 NONE NONE ∷ credential 5 NEVER 3 NONE ∷ card 5 55 ∷ [])
+    ((read 3 28800 55 ∷ read 2 36000 55 ∷ read 2 61200 55 ∷ []) ∷ cut ∷ (read 3 115200 55 ∷ read 2 122400 55 ∷ []) ∷ []) refl
+
+-- One name that opens it, and the definitions of DayPasses.
+unfoldable pub passes : Unit {0}
+unfolding definitions examples guest isGrantOf grantTimes timesGranted datesGranted daysInSite stateLeft lastOf takenSince daysTaken neverFall different
+passes = tt
+
+pub guest-granted : timesGranted 5 guest ≡ 36000 ∷ 61200 ∷ 122400 ∷ []
+unfolding passes
+guest-granted = refl
+
+-- Two of three days are taken, on two dates.
+pub guest-days :
+    stateLeft 5 guest .days ∷ daysTaken (datesGranted 5 guest) ∷ different (datesGranted 5 guest) ∷ daysInSite 5 guest ∷ [] ≡ 1 ∷ 2 ∷ 2 ∷ 3 ∷ []
+unfolding passes
+guest-days = refl
+
+-- Last grant is the last of them.
+pub guest-last : stateLeft 5 guest .«last_grant» ∷ lastOf NEVER (timesGranted 5 guest) ∷ [] ≡ 122400 ∷ 122400 ∷ []
+unfolding passes
+guest-last = refl

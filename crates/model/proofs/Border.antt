@@ -4,7 +4,7 @@ use mathlib.Core.Path.{_≡_, refl, sym, _∙_, ap}
 use mathlib.Core.List.{List, [], _∷_}
 use mathlib.Core.Bool.{Bool, true, false, not, _&&_, _||_, and-false, or-true, Bool·beq}
 use lib.Dec.{eqb, ltb}
-use borrow.Author.Tests.{eqb-true, not-true}
+use borrow.Author.Tests.{not-true}
 use Rattle.model.specs.Words.{if_then_else_, all, missing}
 use Rattle.model.specs.Numbers as n
 use Rattle.model.specs.Numbers.{NONE}

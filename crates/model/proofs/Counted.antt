@@ -1,19 +1,18 @@
 -- Demand 3, the count: after every list of runs from fresh a zone's count is T less the smaller of zero and L.
 use Prim.Native.Nat.{ℕ, _+_, _-_}
-use mathlib.Core.Path.{_≡_, refl, sym, _∙_, ap}
+use mathlib.Core.Path.{_≡_, refl, sym, ap}
 use mathlib.Core.List.{List, [], _∷_, map}
 use mathlib.Core.Bool.{Bool, true, false, not, _&&_, and-false}
-use native.Mathlib.Omega.{arith}
 use lib.Dec.{eqb, ltb}
 use lib.IntN.{pos, negℤ}
-use borrow.Author.Tests.{eqb-true, eq-eqb, ne-eqb, ltb-true, not-true}
+use borrow.Author.Tests.{eqb-true, eq-eqb, not-true}
 use Rattle.octets.specs.Octets.{field}
 use Rattle.model.specs.Words.{if_then_else_, all, missing}
 use Rattle.model.specs.Numbers as n
 use Rattle.model.specs.Numbers.{NONE}
 use Rattle.model.specs.Site.{records, kind, instance, reference, zoneOf, pointOf, isAt, findIn}
 use Rattle.model.specs.Accept.{inRange, pointInRange, exists}
-use Rattle.model.specs.State.{Pair, Panel, sites, findBy, find, seek, store, write, count, zoneBytes, freshRecord}
+use Rattle.model.specs.State.{Pair, Panel, sites, find, seek, write, count, zoneBytes, freshRecord}
 use Rattle.model.specs.Entry.{entryOf, operationOf, objectKind, inForm, answerBytes}
 use Rattle.model.specs.Checks.{eventOf}
 use Rattle.model.specs.Effects.{counts, countAfter, answerWith, outcomeWith, outcomeOf}
@@ -25,7 +24,7 @@ use Rattle.model.specs.declared.Answer.{Answer}
 use Rattle.model.specs.declared.Outcome.{Outcome}
 use Rattle.model.specs.declared.Operation.{Operation}
 use Rattle.model.specs.declared.Operation.the-variants.{Factor, SetCount, AdjustCount, SetDisable, SetService, Unknown}
-use Rattle.model.proofs.Laws.{if-holds, and-left, kind-at, find-in, found, sites-write, sites-apply, find-write-other, find-write-same, all-found-in, found-in}
+use Rattle.model.proofs.Laws.{if-holds, kind-at, find-in, found, sites-write, sites-apply, find-write-other, find-write-same, all-found-in, found-in}
 use Rattle.model.proofs.RoundTrip.{count-back, event-back, refusal-back}
 use Rattle.model.proofs.Flat.{freshPanel, sites-fresh, find-fresh}
 use Rattle.model.proofs.Runs.{real-number, workedAt, allEntries, accepted, ended-panel, worked-list}

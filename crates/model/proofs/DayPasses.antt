@@ -1,7 +1,7 @@
 -- Day passes: last grant, and days left beside the dates of the credential's grants, after every list of runs from fresh.
 use Prim.Native.Nat.{ℕ, suc, _+_, _-_, _/_, _<_}
 use native.Mathlib.Omega.{arith}
-use mathlib.Core.Path.{_≡_, refl, sym, _∙_, ap}
+use mathlib.Core.Path.{_≡_, refl, sym, _∙_}
 use mathlib.Core.List.{List, [], _∷_, map}
 use mathlib.Core.Bool.{Bool, true, false, not, _&&_, _||_, and-false, false≢true}
 use lib.Dec.{ltb, leb, eqb}
@@ -9,15 +9,15 @@ use borrow.Author.Tests.{eqb-true, eqb-false, eq-eqb, ne-eqb, ltb-true, ltb-fals
 use Rattle.model.specs.Words.{if_then_else_, any, all, bitOf, missing}
 use Rattle.model.specs.Numbers as n
 use Rattle.model.specs.Numbers.{NONE, NEVER, UNLIMITED}
-use Rattle.model.specs.Site.{credentialId, records, daysGiven, pointOf, isAt, findIn}
+use Rattle.model.specs.Site.{credentialId, records, pointOf, isAt, findIn}
 use Rattle.model.specs.Accept.{exists}
 use Rattle.model.specs.State.{Pair, Panel, sites, find, seek, write, zoneBytes, credentialStateOf, credentialBytes, freshWith, freshCredential, freshRecord}
-use Rattle.model.specs.Entry.{entryOf, answerBytes, operationOf, objectKind, argumentsFit, inForm}
+use Rattle.model.specs.Entry.{entryOf, operationOf, objectKind, argumentsFit, inForm}
 use Rattle.model.specs.Checks.{waiting, eventOf}
 use Rattle.model.specs.Effects.{named, date, losesDay, daysAfter, credentialAfter, answerWith, outcomeWith, outcomeOf}
-use Rattle.model.specs.Step.{noCredential, unchanged, refuse, numberRead, credentialAt, situationOf, rulesAt, factorOutcome, countOutcome, adjusted, adjustOutcome, disableAfter, disableOutcome, locks, serviceOutcome, workedOutcome, outcomeAs, entryOutcome, apply, panels, after, answers}
+use Rattle.model.specs.Step.{noCredential, unchanged, refuse, credentialAt, situationOf, rulesAt, factorOutcome, countOutcome, adjusted, adjustOutcome, disableAfter, disableOutcome, locks, serviceOutcome, workedOutcome, outcomeAs, entryOutcome, apply, panels, after, answers}
 use Rattle.model.specs.Lists.{Worked, History}
-use Rattle.model.specs.DayPasses.{isGrantOf, grantTimes, timesGranted, datesGranted, daysSold, stateLeft, lastOf, lastTime, takenSince, daysTaken, neverFall, different}
+use Rattle.model.specs.DayPasses.{isGrantOf, grantTimes, timesGranted, datesGranted, daysInSite, stateLeft, lastOf, takenSince, daysTaken, neverFall, different}
 use Rattle.model.specs.Demands.{LastGrant, DaysTaken, DaysOfAdmission}
 use Rattle.model.specs.declared.Situation.{Situation}
 use Rattle.model.specs.declared.Entry.{Entry}
@@ -319,14 +319,14 @@ module _ (h : History) (c : ℕ) (x : exists (records (h .site)) n.access-creden
   times-granted = rw (worked-list h)
 
 pub last-grant : LastGrant
-unfolding LastGrant lastTime freshCredential freshWith
+unfolding LastGrant freshCredential freshWith
 last-grant h c x =
     let ps = freshPanel (records (h .site)) in
     rw (state-left h c x, times-granted h c x)
     (rw (held-fresh c (records (h .site)) (site-record h c x)) at (last-entries c (not-none h c x) (allEntries h) ps (there h c x)))
 
 pub days-taken : DaysTaken
-unfolding DaysTaken datesGranted daysSold freshCredential freshWith takenFrom
+unfolding DaysTaken datesGranted daysInSite freshCredential freshWith takenFrom
 days-taken h c x limited =
     let ps = freshPanel (records (h .site)) in
     let f = held-fresh c (records (h .site)) (site-record h c x) in

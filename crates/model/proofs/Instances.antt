@@ -1,5 +1,5 @@
 -- The theorems of Demands at the small lists of Applied: what is asked can be met, and what is said is of these bytes.
-use Prim.Native.Nat.{ℕ}
+use Prim.Native.Nat.{ℕ, _+_}
 use native.Mathlib.Omega.{arith}
 use mathlib.Core.Path.{_≡_, refl}
 use mathlib.Core.List.{List, [], _∷_, map, flatten}
@@ -19,17 +19,19 @@ use Rattle.model.specs.Tally.{standing, tallyOf, countOf}
 use Rattle.model.specs.Part.{SelfContained, partAnswers, partState}
 use Rattle.model.specs.Earned.{FittingRule, Earned}
 use Rattle.model.specs.Shifts.{isShift, followingDays, untilMidnight, sinceMidnight, standsHalved, standsWhole, Halved, Rewritten}
-use Rattle.model.specs.Demands.{Count, Isolation, GrantEarned, ShiftHalves, SameShifts, FreshShifts, AcceptedShifts}
+use Rattle.model.specs.DayPasses.{timesGranted, datesGranted, daysInSite, stateLeft, lastOf, daysTaken, different}
+use Rattle.model.specs.Demands.{Count, Isolation, GrantEarned, ShiftHalves, SameShifts, FreshShifts, AcceptedShifts, LastGrant, DaysTaken, DaysOfAdmission}
 use Rattle.model.proofs.Open.{definitions}
 use Rattle.model.proofs.Build.{point, credential, card, rule, read, run, examples}
 use Rattle.model.proofs.Parts.{part, nothing, parts}
-use Rattle.model.proofs.Applied.{hall, west, east, both-wings, west-alone}
+use Rattle.model.proofs.Applied.{hall, west, east, both-wings, west-alone, guest, passes}
 use Rattle.model.proofs.Counted.{count-is-tally}
 use Rattle.model.proofs.Isolation.{isolation}
 use Rattle.model.proofs.Granted.{grant-earned}
 use Rattle.model.proofs.Shifts.{shift-halves}
 use Rattle.model.proofs.SameShifts.{same-shifts, fresh-shifts}
 use Rattle.model.proofs.ShiftsAccepted.{accepted-shifts}
+use Rattle.model.proofs.DayPasses.{last-grant, days-taken, days-of-admission, dates-never-fall}
 
 -- The count of zone 9 in the hall.
 pub hall-counted : pos (countOf 9 hall) ≡ standing (tallyOf 9 hall)
@@ -109,3 +111,17 @@ pub shifts-alike :
     ≡ map (λ (w : Worked). w .answer) (workedIn two-rules (fresh two-rules) (run (read 2 79200 55 ∷ read 2 107940 55 ∷ []) ∷ []))
 unfolding SameShifts
 shifts-alike = same-shifts one-rule two-rules (fresh one-rule) (fresh two-rules) shifts-begun (run (read 2 79200 55 ∷ read 2 107940 55 ∷ []) ∷ []) .1
+
+-- The guest's days left and the dates on which the guest was granted come to the three days of the pass: the times of the grants never fall.
+pub guest-admitted : stateLeft 5 guest .days + different (datesGranted 5 guest) ≡ daysInSite 5 guest
+unfolding passes DaysOfAdmission
+guest-admitted = days-of-admission guest 5 refl (omega arith) (dates-never-fall (timesGranted 5 guest) refl)
+
+-- So do the days left and the days taken; and the state holds the last grant.
+pub guest-taken : stateLeft 5 guest .days + daysTaken (datesGranted 5 guest) ≡ daysInSite 5 guest
+unfolding passes DaysTaken
+guest-taken = days-taken guest 5 refl (omega arith)
+
+pub guest-held : stateLeft 5 guest .«last_grant» ≡ lastOf NEVER (timesGranted 5 guest)
+unfolding passes LastGrant
+guest-held = last-grant guest 5 refl

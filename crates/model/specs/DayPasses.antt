@@ -1,12 +1,11 @@
--- Days of admission (beyond document 02, job 5): "The estates now sell passes by days of admission." What a list of runs shows of a credential's grants,
--- from its entries and their answers, beside its days in the site and in the state.
+-- Document 02, job 5: "The estates now sell passes by days of admission." What the entries of a list and their answers show of a credential's grants, beside
+-- its days in the site and in the state.
 use Prim.Native.Nat.{ℕ, suc, _+_}
 use mathlib.Core.List.{List, [], _∷_, map}
 use mathlib.Core.Bool.{Bool, true, _&&_}
 use lib.Dec.{ltb, leb, eqb}
 use Rattle.model.specs.Words.{if_then_else_, keep, any, all, bitOf}
 use Rattle.model.specs.Numbers as n
-use Rattle.model.specs.Numbers.{NEVER}
 use Rattle.model.specs.Site.{records, daysGiven, isAt, findIn}
 use Rattle.model.specs.State.{panel, find, credentialStateOf}
 use Rattle.model.specs.Entry.{entryOf}
@@ -30,34 +29,32 @@ unfoldable pub datesGranted : ℕ → History → List ℕ
 datesGranted c h = map date (timesGranted c h)
 
 -- Its days in the site.
-unfoldable pub daysSold : ℕ → History → ℕ
-daysSold c h = daysGiven (findIn (isAt n.access-credential c) (records (h .site)))
+unfoldable pub daysInSite : ℕ → History → ℕ
+daysInSite c h = daysGiven (findIn (isAt n.access-credential c) (records (h .site)))
 
 -- Its state at the end of a list.
 unfoldable pub stateLeft : ℕ → History → CredentialState
 stateLeft c h = credentialStateOf (find n.access-credential c (panel (h .site) (ended h)) .1)
 
--- The last of a list of times, or never.
+-- The last of a list of times; `time` where there is none.
 unfoldable pub lastOf : ℕ → List ℕ → ℕ
 lastOf time [] = time
 lastOf time (t ∷ ts) = lastOf t ts
 
-unfoldable pub lastTime : List ℕ → ℕ
-lastTime ts = lastOf NEVER ts
-
--- The days that grants on these dates take: "if the card has no earlier grant or today's date is later than the last grant's", which was on d.
+-- The days that grants on these dates take, after a grant on the date `last`: one for each where "today's date is later than the last grant's".
 unfoldable pub takenSince : ℕ → List ℕ → ℕ
-takenSince d [] = 0
-takenSince d (e ∷ es) = bitOf (ltb d e) + takenSince e es
+takenSince last [] = 0
+takenSince last (d ∷ ds) = bitOf (ltb last d) + takenSince d ds
 
+-- The days that all grants take: one for the first too, where "the card has no earlier grant".
 unfoldable pub daysTaken : List ℕ → ℕ
 daysTaken [] = 0
 daysTaken (d ∷ ds) = suc (takenSince d ds)
 
--- No time, or no date, is before an earlier one of the list.
+-- Dates, or times, that never fall: none is before an earlier one of the list.
 unfoldable pub neverFall : List ℕ → Bool
 neverFall [] = true
-neverFall (t ∷ ts) = all (leb t) ts && neverFall ts
+neverFall (d ∷ ds) = all (leb d) ds && neverFall ds
 
 -- The number of different dates.
 unfoldable pub different : List ℕ → ℕ

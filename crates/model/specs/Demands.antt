@@ -22,7 +22,7 @@ use Rattle.model.specs.Tally.{standing, tallyOf, countOf}
 use Rattle.model.specs.Part.{Part, SelfContained, partRecords, partEntries, partAnswers, partState}
 use Rattle.model.specs.Earned.{Earned}
 use Rattle.model.specs.Shifts.{isShift, untilMidnight, sinceMidnight, Halved, Rewritten}
-use Rattle.model.specs.DayPasses.{timesGranted, datesGranted, daysSold, stateLeft, lastTime, daysTaken, neverFall, different}
+use Rattle.model.specs.DayPasses.{timesGranted, datesGranted, daysInSite, stateLeft, lastOf, daysTaken, neverFall, different}
 use Rattle.model.specs.declared.Returned.{Returned}
 use Rattle.model.specs.declared.Returned.the-variants.{WorkedThrough, SiteLength, StateForm}
 use Rattle.model.specs.declared.Operation.the-variants.{Factor}
@@ -107,21 +107,20 @@ AcceptedShifts =
     (site other : List ℕ) → returnsOther SiteLength (checkSite site) ≡ true → returnsOther SiteLength (checkSite other) ≡ true → Halved (records site) (records other) →
     checkSite site ≡ checkSite other
 
--- Day passes (document 02, job 5), after every list from fresh and whatever the clock does: last grant is the time of the credential's last grant, "never
--- when fresh, set by each grant".
+-- Day passes (document 02, job 5), after every list from fresh, whatever the clock does: last grant is "never when fresh, set by each grant".
 unfoldable pub LastGrant : Type 0
 LastGrant =
-    (h : History) (c : ℕ) → exists (records (h .site)) n.access-credential c ≡ true → stateLeft c h .«last_grant» ≡ lastTime (timesGranted c h)
+    (h : History) (c : ℕ) → exists (records (h .site)) n.access-credential c ≡ true → stateLeft c h .«last_grant» ≡ lastOf n.NEVER (timesGranted c h)
 
--- Of limited days, its days left and the days that its grants took, read from the answers, come to its days in the site.
+-- Likewise, of limited days: the days left and those that the grants took, read from the answers, come to the credential's days in the site.
 unfoldable pub DaysTaken : Type 0
 DaysTaken =
-    (h : History) (c : ℕ) → exists (records (h .site)) n.access-credential c ≡ true → daysSold c h < n.UNLIMITED →
-    stateLeft c h .days + daysTaken (datesGranted c h) ≡ daysSold c h
+    (h : History) (c : ℕ) → exists (records (h .site)) n.access-credential c ≡ true → daysInSite c h < n.UNLIMITED →
+    stateLeft c h .days + daysTaken (datesGranted c h) ≡ daysInSite c h
 
--- And beyond the request, for the estates: as long as the dates of its grants never fall, its days left and the number of different dates on which it was
+-- Days of admission (beyond document 02): as long as the dates of its grants never fall, the days left and the number of different dates on which it was
 -- granted come to its days in the site.
 unfoldable pub DaysOfAdmission : Type 0
 DaysOfAdmission =
-    (h : History) (c : ℕ) → exists (records (h .site)) n.access-credential c ≡ true → daysSold c h < n.UNLIMITED →
-    neverFall (datesGranted c h) ≡ true → stateLeft c h .days + different (datesGranted c h) ≡ daysSold c h
+    (h : History) (c : ℕ) → exists (records (h .site)) n.access-credential c ≡ true → daysInSite c h < n.UNLIMITED →
+    neverFall (datesGranted c h) ≡ true → stateLeft c h .days + different (datesGranted c h) ≡ daysInSite c h

@@ -197,7 +197,7 @@ pointWell ss s t =
     && (not (pointStateOf t .locked) || eqb (pointStateOf t .«waiting_credential» .0) NONE)
     && failuresWell (pointStateOf t .failures) (pointOf s .«most_failures»)
 
--- A credential: "unnamed bytes zero, fields in range, references NONE or existing".
+-- A credential: "unnamed bytes zero, fields in range, references NONE or existing"; last grant may be any time.
 unfoldable pub credentialWell : List (List ℕ) → List ℕ → Bool
 credentialWell ss t =
     leb (credentialStateOf t .disable) largest-disable && clear 19 1 t && clear 28 4 t

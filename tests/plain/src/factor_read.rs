@@ -393,7 +393,7 @@ impl<'a, L: Lookup> FactorRead<'a, L> {
     }
 
     /// Traces the credential named and writes its last use; hands back its instance or NONE. It
-    /// comes after the grant, which needs the earlier last use.
+    /// comes after step 5, which needs the earlier last use.
     #[inline]
     fn record_use(&mut self, event: u16) -> u32 {
         let Some(index) = self.named else {
@@ -443,8 +443,8 @@ fn disabled_factor(disable: u8) -> Option<u16> {
     }
 }
 
-/// A grant spends a use and, on the first use ever or on a later date than the last one, a day.
-/// Step 5 has seen to it that there is one left of each.
+/// A grant spends a use and, where it is the first ever or on a later date than the last one, a day.
+/// Step 5 has seen to it that there is one left of each. It then is the last grant itself.
 #[inline]
 fn spend(held: &mut Record, now: u32) {
     let uses = get16(held, credential_state::USES_REMAINING);
@@ -452,10 +452,11 @@ fn spend(held: &mut Record, now: u32) {
         put16(held, credential_state::USES_REMAINING, uses - 1);
     }
     let days = get16(held, credential_state::DAYS_REMAINING);
-    let last_use = get32(held, credential_state::LAST_USE_TIME);
+    let last_grant = get32(held, credential_state::LAST_GRANT_TIME);
     if days != UNLIMITED
-        && (last_use == NEVER || now / SECONDS_PER_DAY > last_use / SECONDS_PER_DAY)
+        && (last_grant == NEVER || now / SECONDS_PER_DAY > last_grant / SECONDS_PER_DAY)
     {
         put16(held, credential_state::DAYS_REMAINING, days - 1);
     }
+    put32(held, credential_state::LAST_GRANT_TIME, now);
 }

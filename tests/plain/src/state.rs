@@ -42,6 +42,7 @@ fn fresh_credential(record: &Record, part: &mut Record) {
     put32(part, credential_state::ENTERED, NEVER);
     part[credential_state::CREDENTIAL_DISABLE] = record[credential::CREDENTIAL_DISABLE];
     put32(part, credential_state::LAST_ACCESS_POINT, NONE);
+    put32(part, credential_state::LAST_GRANT_TIME, NEVER);
 }
 
 /// Whether a state as long as the site is one that it allows.
@@ -77,7 +78,7 @@ fn point_well_formed<L: Lookup>(site: &Site<L>, record: &Record, part: &Record) 
 
 #[inline]
 fn credential_well_formed<L: Lookup>(site: &Site<L>, part: &Record) -> bool {
-    let spare = u64::from(part[19]) | word(part, 24);
+    let spare = u32::from(part[19]) | half(part, 28);
     spare == 0
         && part[credential_state::CREDENTIAL_DISABLE] <= credential_disable::DISABLE_LOCKOUT
         && site.none_or_exists(kind::ZONE, get32(part, credential_state::ZONE))

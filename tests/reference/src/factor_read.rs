@@ -328,6 +328,8 @@ impl<'a> FactorRead<'a> {
         move_credential(held, &self.point, self.now);
         spend_use(held);
         spend_day(held, self.now);
+        // After the day, which asks for the grant before this one.
+        put32(held, credential_state::LAST_GRANT_TIME, self.now);
         event::GRANTED
     }
 
@@ -377,7 +379,7 @@ impl<'a> FactorRead<'a> {
     }
 
     /// Marks the trace and writes last use, event and point of the credential named. It comes
-    /// after the grant, which needs the earlier last use.
+    /// after step 5, which needs the earlier last use.
     fn record_use(&mut self, event: u16) {
         let Some(index) = self.credential else {
             return;
@@ -477,12 +479,12 @@ fn spend_use(held: &mut [u8]) {
     }
 }
 
-/// A grant spends a day where the credential was never used before, or where its last use,
-/// granted or denied, was on an earlier date.
+/// A grant spends a day where the credential was never granted before, or where its last grant was
+/// on an earlier date. Denials have no part in it.
 fn spend_day(held: &mut [u8], now: u32) {
     let days = get16(held, credential_state::DAYS_REMAINING);
-    let last_use = get32(held, credential_state::LAST_USE_TIME);
-    if days != UNLIMITED && (last_use == NEVER || date(now) > date(last_use)) {
+    let last_grant = get32(held, credential_state::LAST_GRANT_TIME);
+    if days != UNLIMITED && (last_grant == NEVER || date(now) > date(last_grant)) {
         put16(held, credential_state::DAYS_REMAINING, days - 1);
     }
 }

@@ -77,6 +77,7 @@ pub mod credential_state {
     pub const LAST_ACCESS_EVENT: usize = 16;
     pub const CREDENTIAL_DISABLE: usize = 18;
     pub const LAST_ACCESS_POINT: usize = 20;
+    pub const LAST_GRANT_TIME: usize = 24;
 }
 
 pub mod entry {

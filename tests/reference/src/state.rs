@@ -44,6 +44,7 @@ fn write_fresh(record: &[u8], part: &mut [u8]) {
             put32(part, credential_state::ENTERED, NEVER);
             part[credential_state::CREDENTIAL_DISABLE] = credential.disable();
             put32(part, credential_state::LAST_ACCESS_POINT, NONE);
+            put32(part, credential_state::LAST_GRANT_TIME, NEVER);
         }
         _ => {}
     }
@@ -88,5 +89,5 @@ fn credential_well_formed(site: &[u8], part: &[u8]) -> bool {
             kind::POINT,
             get32(part, credential_state::LAST_ACCESS_POINT),
         )
-        && all_zero(&part[24..])
+        && all_zero(&part[28..])
 }

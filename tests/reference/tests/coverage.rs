@@ -1,20 +1,23 @@
 //! The generated cases reach every event, mark and refusal of document 01 and, of document 02, each
-//! part of windows across midnight, which they tell from its misreadings; and the generators of sites
-//! and states keep what they promise.
+//! part of windows across midnight and each kind of day passes, which they tell from their misreadings;
+//! and the generators of sites and states keep what they promise.
 
+mod days;
 mod windows;
 
 use reference::bytes::{get16, put16};
 use reference::generate::clock::base_time;
+use reference::generate::damage::damage_last_grant;
 use reference::generate::{case, site, state, Random};
 use reference::journal::run_journal;
-use reference::layout::rule;
+use reference::layout::{credential_state, rule};
 use reference::numbers::{event, kind, refusal, MINUTES_PER_DAY, RECORD_LENGTH};
 use reference::occurrences::{assert_often, Occurrences, REFUSALS};
 use reference::site::{check_site, kind_of, records};
 use reference::state::{fresh_state, well_formed};
 use std::collections::BTreeMap;
 use std::fmt::Debug;
+use std::ops::Range;
 use windows::{see_generated_reads, Moment, MISREADINGS, PARTS};
 
 const CASES: usize = 20_000;
@@ -187,4 +190,96 @@ fn each_misreading_of_windows_across_midnight_gives_other_events() {
     print_rows(&times);
     let wanted = MISREADINGS.map(|(misreading, _)| misreading);
     assert_often("misreading", &times, &wanted, FEWEST_READS);
+}
+
+#[test]
+fn each_kind_of_day_passes_occurs_often() {
+    let mut times = BTreeMap::new();
+    days::see_generated_reads(CASES, |reads| {
+        for worked in reads {
+            let taken = worked.days_taken();
+            for kind in days::KINDS.iter().filter(|kind| (kind.holds)(&worked.read)) {
+                assert_eq!(taken, kind.days_taken, "{}", kind.name);
+                *times.entry(kind.name).or_default() += 1;
+            }
+        }
+    });
+    print_rows(&times);
+    let wanted = days::KINDS.map(|kind| kind.name);
+    assert_often("reads", &times, &wanted, FEWEST_READS);
+}
+
+#[test]
+fn each_misreading_of_day_passes_leaves_other_days() {
+    let mut times = BTreeMap::new();
+    days::see_generated_reads(CASES, |reads| {
+        for worked in reads {
+            assert_eq!(days::TEXT.left(&worked.read), worked.left);
+        }
+        assert_eq!(days::count_other_days(reads, &days::TEXT), 0);
+        for (misreading, reading) in days::MISREADINGS {
+            *times.entry(misreading).or_default() += days::count_other_days(reads, &reading);
+        }
+    });
+    print_rows(&times);
+    let wanted = days::MISREADINGS.map(|(misreading, _)| misreading);
+    assert_often("misreading", &times, &wanted, FEWEST_READS);
+}
+
+/// The bytes of a credential's state behind its last grant.
+const SPARE: Range<usize> = credential_state::LAST_GRANT_TIME + 4..RECORD_LENGTH;
+
+/// The state with these bytes of all credentials at zero.
+fn without_spare_bytes(site: &[u8], state: &[u8]) -> Vec<u8> {
+    let mut state = state.to_vec();
+    for (record, part) in records(site).zip(state.chunks_exact_mut(RECORD_LENGTH)) {
+        if kind_of(record) == kind::CREDENTIAL {
+            part[SPARE].fill(0);
+        }
+    }
+    state
+}
+
+#[test]
+fn spare_bytes_behind_last_grant_are_often_all_that_is_not_well_formed() {
+    let mut times = 0;
+    let mut random = Random::new(28);
+    for _ in 0..CASES {
+        let mut case = case(&mut random);
+        let mended = without_spare_bytes(&case.site, &case.state);
+        let returned = run_journal(
+            &case.site,
+            &mut case.state,
+            &case.journal,
+            &mut case.answers,
+        );
+        let is_mended = returned == refusal::STATE_FORM && well_formed(&case.site, &mended);
+        times += usize::from(is_mended);
+    }
+    println!("refused for spare bytes alone: {times}");
+    assert!(times >= FEWEST, "{times} states");
+}
+
+/// Other bytes of last grant leave a state well formed, other bytes behind it do not.
+#[test]
+fn damage_to_last_grants_is_often_well_formed_and_often_not() {
+    let mut times = BTreeMap::new();
+    let mut random = Random::new(24);
+    for _ in 0..CASES / 4 {
+        let base = base_time(&mut random);
+        let site = site(&mut random, base);
+        let before = state(&mut random, base, &site);
+        let mut after = before.clone();
+        damage_last_grant(&mut random, &site, &mut after);
+        if after == before {
+            continue;
+        }
+        let is_spare = without_spare_bytes(&site, &after) == before;
+        assert_eq!(well_formed(&site, &after), !is_spare);
+        let damaged = if is_spare { "spare byte" } else { "last grant" };
+        *times.entry(damaged).or_default() += 1;
+    }
+    print_rows(&times);
+    let wanted = ["last grant", "spare byte"];
+    assert_often("damage", &times, &wanted, FEWEST);
 }

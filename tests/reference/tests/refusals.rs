@@ -223,6 +223,7 @@ fn a_fresh_state_is_well_formed_and_holds_the_bytes_of_the_paper() {
     credential[8..12].copy_from_slice(&[0, 0x3F, 0xFF, 0xFF]);
     credential[12..16].fill(0xFF);
     credential[20..24].copy_from_slice(&[0, 0x3F, 0xFF, 0xFF]);
+    credential[24..28].fill(0xFF);
     assert_eq!(state, expected);
     let mut short = vec![0xFF; site.len() - 1];
     assert_eq!(fresh_state(&site, &mut short), refusal::STATE_LENGTH);
@@ -248,7 +249,9 @@ fn fields_of_a_state_out_of_range() {
     assert!(!well_formed_with(&[(32 + 4, 3)]), "failures at the most");
     assert!(well_formed_with(&[(96 + 18, 3)]), "the last disable");
     assert!(!well_formed_with(&[(96 + 18, 4)]), "a disable beyond it");
-    for spare in [4, 31, 38, 39, 56, 63, 64, 95, 115, 120, 127, 128, 159] {
+    let last_grant = [(96 + 24, 0), (96 + 25, 1), (96 + 26, 2), (96 + 27, 3)];
+    assert!(well_formed_with(&last_grant), "any last grant");
+    for spare in [4, 31, 38, 39, 56, 63, 64, 95, 115, 124, 127, 128, 159] {
         assert!(!well_formed_with(&[(spare, 1)]), "spare byte {spare}");
     }
 }

@@ -7,6 +7,7 @@ reference::test_scenarios!(reference::engine::REFERENCE);
 fn every_scenario_is_listed() {
     let listed = include_str!("../src/scenarios/mod.rs");
     for text in [
+        include_str!("../src/scenarios/day_passes.rs"),
         include_str!("../src/scenarios/field_sheet.rs"),
         include_str!("../src/scenarios/midnight.rs"),
         include_str!("../src/scenarios/misreadings.rs"),

@@ -1,7 +1,7 @@
 //! Whole cases: the input of one journal run.
 
 use super::clock::base_time;
-use super::damage::{answers_length, damage, overlong};
+use super::damage::{answers_length, damage, damage_last_grant, overlong};
 use super::random::Random;
 use super::{journals, sites, states};
 use crate::numbers::{
@@ -33,6 +33,9 @@ pub fn case(random: &mut Random) -> Case {
     }
     if damaged && random.sixteenths(3) {
         states::spoil(random, &site, &mut state);
+    }
+    if damaged && random.sixteenths(3) {
+        damage_last_grant(random, &site, &mut state);
     }
     let entries = random.below(40);
     let mut journal = journals::journal(random, base, &site, entries);

@@ -10,8 +10,8 @@ const LAST_TIME: u32 = NEVER - 1;
 /// A time for a case to begin with.
 pub fn base_time(random: &mut Random) -> u32 {
     let any = random.below(20) as u32;
-    // Often a Sunday or the Monday after it, where the days of rules begin anew.
-    let day = random.pick(&[6, 7, any, any]) * SECONDS_PER_DAY;
+    // Often the first Monday, or a Sunday or the Monday after it, where the days of rules begin anew.
+    let day = random.pick(&[0, 0, 6, 7, any, any]) * SECONDS_PER_DAY;
     let minute = random.below(1_440) as u32 * SECONDS_PER_MINUTE;
     match random.below(16) {
         0 => 0,
@@ -41,6 +41,30 @@ pub fn near(random: &mut Random, base: u32) -> u32 {
     } else {
         base.saturating_add(distance).min(LAST_TIME)
     }
+}
+
+/// A time on the date of the base or on one beside it, often in the first or last second of a date.
+pub fn beside_date(random: &mut Random, base: u32) -> u32 {
+    let today = date(base);
+    let day = random.pick(&[today.saturating_sub(1), today, today + 1]);
+    let any = random.below(SECONDS_PER_DAY as usize) as u32;
+    let second = random.pick(&[0, any, SECONDS_PER_DAY - 1]);
+    let time = day.saturating_mul(SECONDS_PER_DAY).saturating_add(second);
+    time.min(LAST_TIME)
+}
+
+/// The time of the next read of a card that comes on several dates: hours later, beside the next
+/// midnight, a day later, or a day earlier where the clock is set back.
+pub fn next_visit(random: &mut Random, now: u32) -> u32 {
+    let midnight = (date(now) + 1).saturating_mul(SECONDS_PER_DAY);
+    let time = match random.below(16) {
+        0..=5 => now.saturating_add(random.below(6 * 3_600) as u32),
+        6 => midnight - 1,
+        7 => midnight,
+        8..=12 => now.saturating_add(SECONDS_PER_DAY),
+        _ => now.saturating_sub(SECONDS_PER_DAY),
+    };
+    time.min(LAST_TIME)
 }
 
 /// The time of the entry after one at `now`: mostly a little later, at times much later or

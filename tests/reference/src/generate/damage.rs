@@ -3,8 +3,9 @@
 use super::random::Random;
 use super::sites::MISSING;
 use crate::bytes::{get16, get32, put16, put32};
-use crate::layout::{record, rule};
-use crate::numbers::{kind, ANSWER_LENGTH, ENTRY_LENGTH, MINUTES_PER_DAY, NONE};
+use crate::layout::{credential_state, record, rule};
+use crate::numbers::{kind, ANSWER_LENGTH, ENTRY_LENGTH, MINUTES_PER_DAY, NONE, RECORD_LENGTH};
+use crate::site::{kind_of, records};
 
 /// Damages bytes that hold units (records or entries) of one length. The outcome may by chance
 /// be sound.
@@ -23,6 +24,22 @@ pub fn damage(random: &mut Random, bytes: &mut Vec<u8>, unit: usize) {
         14..=15 => change_reference(random, bytes, unit),
         _ => change_hours(random, bytes, unit),
     }
+}
+
+/// Changes a byte of a credential's last grant, which may hold any, or a spare byte behind it.
+pub fn damage_last_grant(random: &mut Random, site: &[u8], state: &mut [u8]) {
+    let parts = records(site).zip(state.chunks_exact_mut(RECORD_LENGTH));
+    let mut credentials: Vec<&mut [u8]> = parts
+        .filter(|(record, _)| kind_of(record) == kind::CREDENTIAL)
+        .map(|(_, part)| part)
+        .collect();
+    if credentials.is_empty() {
+        return;
+    }
+    let chosen = random.below(credentials.len());
+    let offset = random.below(RECORD_LENGTH - credential_state::LAST_GRANT_TIME);
+    let byte = &mut credentials[chosen][credential_state::LAST_GRANT_TIME + offset];
+    *byte ^= random.pick(&[1, 128, 255]);
 }
 
 /// Lengthens bytes beyond the most, by whole units of zeros.

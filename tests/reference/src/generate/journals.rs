@@ -1,6 +1,6 @@
 //! Journals whose entries mostly meet the objects of a site, with bad entries of every kind.
 
-use super::clock::{beside_minute, next_time};
+use super::clock::{beside_minute, next_time, next_visit};
 use super::random::Random;
 use super::sites::{self, MISSING};
 use super::states;
@@ -50,7 +50,11 @@ pub fn journal(random: &mut Random, base: u32, site: &[u8], entries: usize) -> V
         base,
         now: base,
         shown: None,
+        visitor: None,
     };
+    if !writer.objects.factors.is_empty() && random.sixteenths(3) {
+        writer.visitor = Some(writer.beginning(random));
+    }
     let mut journal = Vec::with_capacity(entries * ENTRY_LENGTH);
     for _ in 0..entries {
         journal.extend_from_slice(&writer.entry(random));
@@ -65,6 +69,8 @@ struct Writer<'a> {
     now: u32,
     /// The point and the credential of the identifying factor read last.
     shown: Option<(u32, u32)>,
+    /// A card that is read over and over on several dates, at points that grant it and at others.
+    visitor: Option<FactorRecord<'a>>,
 }
 
 impl<'a> Writer<'a> {
@@ -84,9 +90,12 @@ impl<'a> Writer<'a> {
         entry.bytes()
     }
 
-    /// The time of the next entry: as the clock goes on, or beside a minute at which a rule begins or
-    /// ceases to fit.
+    /// The time of the next entry: as the clock goes on, as the visitor comes, or beside a minute at
+    /// which a rule begins or ceases to fit.
     fn time(&self, random: &mut Random) -> u32 {
+        if self.visitor.is_some() && random.sixteenths(8) {
+            return next_visit(random, self.now);
+        }
         if self.objects.rule_minutes.is_empty() || !random.sixteenths(3) {
             return next_time(random, self.base, self.now);
         }
@@ -120,8 +129,12 @@ impl<'a> Writer<'a> {
         self.read_of(point, &factor)
     }
 
-    /// A factor to begin with: of several draws the first identifying one, else the last.
+    /// A factor to begin with: mostly the visitor's, else of several draws the first identifying one or
+    /// the last.
     fn beginning(&self, random: &mut Random) -> FactorRecord<'a> {
+        if let Some(visitor) = self.visitor.filter(|_| random.sixteenths(10)) {
+            return visitor;
+        }
         let mut factor = random.pick(&self.objects.factors);
         for _ in 0..3 {
             if factor.role() == factor_role::IDENTIFYING {

@@ -87,6 +87,7 @@ impl Sizes {
 struct Mix {
     points: usize,
     credentials: usize,
+    days: usize,
     two_factors: usize,
     authorize: usize,
     negative: usize,
@@ -97,13 +98,18 @@ impl Mix {
     fn new(random: &mut Random) -> Mix {
         // More often than the others, since the rules of a site decide at such points alone.
         let authorize = random.pick(&[0, 4, 8, 14]);
+        // Apart from the others, so that at some sites most cards are day passes.
+        let days = random.pick(&[0, 0, 4, 12]);
+        // More often too, so that negative rules decide in each part of windows across midnight.
+        let negative = random.pick(&[0, 2, 6, 10]);
         let mut part = || random.pick(&[0, 0, 2, 6, 10]);
         Mix {
             points: part(),
             credentials: part(),
+            days,
             two_factors: part(),
             authorize,
-            negative: part(),
+            negative,
             factors: part(),
         }
     }
@@ -315,7 +321,7 @@ fn credential(random: &mut Random, mix: &Mix, base: u32, pool: &Pool, instance: 
         activation_time: restriction(random, strict, 0, &activation),
         expiry_time: restriction(random, strict, NEVER, &expiry),
         uses: restriction(random, mix.credentials, UNLIMITED, &[0, 1, 2, 5]),
-        days: restriction(random, mix.credentials, UNLIMITED, &[0, 1, 2, 5]),
+        days: restriction(random, mix.days, UNLIMITED, &[0, 1, 2, 2, 5, 5]),
         absentee_limit: restriction(random, strict, UNLIMITED, &[0, 1, 2, UNLIMITED - 1]),
         rights: [
             reference(random, &pool.rights),

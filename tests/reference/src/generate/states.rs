@@ -1,6 +1,6 @@
 //! Well-formed states that no journal need have led to.
 
-use super::clock::near;
+use super::clock::{beside_date, near};
 use super::random::Random;
 use super::sites::MISSING;
 use crate::build::Record;
@@ -67,15 +67,15 @@ fn point(random: &mut Random, base: u32, site: &[u8], point: &PointRecord) -> Re
 
 fn credential(random: &mut Random, base: u32, site: &[u8]) -> Record {
     let mut part = [0; RECORD_LENGTH];
-    for offset in [
-        credential_state::USES_REMAINING,
-        credential_state::DAYS_REMAINING,
-    ] {
-        put16(&mut part, offset, remaining(random));
-    }
-    for offset in [credential_state::LAST_USE_TIME, credential_state::ENTERED] {
-        put32(&mut part, offset, stamp(random, base));
-    }
+    let uses = remaining(random);
+    put16(&mut part, credential_state::USES_REMAINING, uses);
+    put16(&mut part, credential_state::DAYS_REMAINING, days(random));
+    let entered = stamp(random, base);
+    put32(&mut part, credential_state::ENTERED, entered);
+    let last_use = last_use(random, base);
+    put32(&mut part, credential_state::LAST_USE_TIME, last_use);
+    let last_grant = last_grant(random, base);
+    put32(&mut part, credential_state::LAST_GRANT_TIME, last_grant);
     let zone = reference(random, site, kind::ZONE);
     put32(&mut part, credential_state::ZONE, zone);
     let event = random.number16();
@@ -122,7 +122,7 @@ fn spoil_credential(random: &mut Random, part: &mut [u8]) {
         0 => part[credential_state::CREDENTIAL_DISABLE] = 4,
         1 => put32(part, credential_state::ZONE, MISSING),
         2 => put32(part, credential_state::LAST_ACCESS_POINT, MISSING),
-        _ => part[random.pick(&[19, 24, 31])] = 1,
+        _ => part[random.pick(&[19, 28, 31])] = 1,
     }
 }
 
@@ -131,6 +131,29 @@ fn remaining(random: &mut Random) -> u16 {
         return UNLIMITED;
     }
     random.pick(&[0, 1, 2, 3, 5, UNLIMITED - 1])
+}
+
+/// Days left, mostly few, so that grants take some and the last of them.
+fn days(random: &mut Random) -> u16 {
+    if random.sixteenths(4) {
+        return UNLIMITED;
+    }
+    random.pick(&[0, 1, 1, 2, 2, 5, 5, UNLIMITED - 1])
+}
+
+/// Often on another date than the last grant, as denials leave it.
+fn last_use(random: &mut Random, base: u32) -> u32 {
+    if random.sixteenths(8) {
+        return stamp(random, base);
+    }
+    beside_date(random, base)
+}
+
+/// Often beside the base, so that the next grant falls on the same date or on another.
+fn last_grant(random: &mut Random, base: u32) -> u32 {
+    let beside = beside_date(random, base);
+    let any = random.number32();
+    random.pick(&[beside, beside, beside, beside, 0, NEVER, NEVER, any])
 }
 
 fn stamp(random: &mut Random, base: u32) -> u32 {

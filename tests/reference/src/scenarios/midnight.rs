@@ -1,24 +1,16 @@
 //! Shifts that cross midnight, as the field engineer would try them at a door (document 02).
 
+use super::week::{
+    at, FRIDAY, MONDAY, NEXT_FRIDAY, NEXT_MONDAY, NEXT_SATURDAY, SATURDAY, SUNDAY, THURSDAY,
+    TUESDAY, WEDNESDAY,
+};
 use crate::answer::Answer;
 use crate::build::{Credential, Factor, Panel, Point, Rule};
 use crate::engine::Engine;
 use crate::numbers::{
-    event, location_kind, refusal, rule_flag, EVERY_DAY, MINUTES_PER_DAY, NEVER, SECONDS_PER_DAY,
-    SECONDS_PER_MINUTE,
+    event, location_kind, refusal, rule_flag, EVERY_DAY, MINUTES_PER_DAY, NEVER, SECONDS_PER_MINUTE,
 };
 use crate::one_point::{badge, CARD};
-
-const MONDAY: u32 = 0;
-const TUESDAY: u32 = 1;
-const WEDNESDAY: u32 = 2;
-const THURSDAY: u32 = 3;
-const FRIDAY: u32 = 4;
-const SATURDAY: u32 = 5;
-const SUNDAY: u32 = 6;
-const NEXT_MONDAY: u32 = 7;
-const NEXT_FRIDAY: u32 = 11;
-const NEXT_SATURDAY: u32 = 12;
 
 /// 22:00 and 06:00.
 const EVENING: u16 = 1_320;
@@ -27,10 +19,6 @@ const MORNING: u16 = 360;
 /// The rights number of shifts, and that of a rule that always fits.
 const SHIFT: u32 = 9;
 const ALWAYS: u32 = 8;
-
-fn at(day: u32, hour: u32, minute: u32) -> u32 {
-    day * SECONDS_PER_DAY + (hour * 60 + minute) * SECONDS_PER_MINUTE
-}
 
 /// A positive rule on one day alone.
 fn shift(day: u32, from: u16, to: u16) -> Rule {

@@ -29,7 +29,7 @@ pub fn days_do_not_fall_on_every_grant(engine: Engine) {
         (event, get16(held, credential_state::DAYS_REMAINING))
     };
     let day = SECONDS_PER_DAY;
-    assert_eq!(days_after(100), (event::GRANTED, 1), "never used before");
+    assert_eq!(days_after(100), (event::GRANTED, 1), "the first grant");
     assert_eq!(days_after(day - 1), (event::GRANTED, 1), "the same date");
     assert_eq!(days_after(day), (event::GRANTED, 0), "the next date");
     let spent = (event::DENIED_CREDENTIAL_MAX_DAYS, 0);

@@ -1,11 +1,13 @@
 //! The named scenarios with what they must give, run through any engine. Those of `readers` also
 //! take a decoder of bits, so they are not of the list below.
 
+pub mod day_passes;
 pub mod field_sheet;
 pub mod midnight;
 pub mod misreadings;
 pub mod paper_cases;
 pub mod readers;
+mod week;
 
 /// Declares a test for each scenario, through one engine. Every package that tests an engine has
 /// its list from here, so that none leaves a scenario out.
@@ -47,6 +49,19 @@ macro_rules! test_scenarios {
             the_clock_set_back_within_a_shift_and_before_it
             hours_beyond_the_day_are_refused_and_those_in_any_order_are_not
             one_shift_is_the_pair_of_rules_that_it_replaces
+        }
+        $crate::test_scenarios! { $engine, day_passes:
+            denied_at_08_00_and_granted_at_10_00_takes_a_day
+            granted_twice_on_one_date_takes_one_day
+            granted_then_denied_and_granted_on_the_next_date_takes_a_second_day
+            a_pass_of_one_day_ends_with_its_first_grant
+            the_clock_set_back_a_day_takes_none_and_the_way_forward_takes_one_again
+            unlimited_days_never_fall_but_last_grant_is_set
+            a_state_with_zeros_takes_no_day_on_day_0_and_one_on_day_1
+            inactivity_counts_from_any_use_and_not_from_the_last_grant
+            a_congress_guest_with_a_three_day_pass_is_let_in_on_three_days
+            the_last_second_of_a_date_and_the_first_of_the_next_take_two_days
+            a_state_with_spare_bytes_is_refused_and_one_with_any_last_grant_is_worked
         }
     };
     ($engine:expr, $group:ident: $($scenario:ident)+) => {
