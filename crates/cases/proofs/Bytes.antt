@@ -1,6 +1,6 @@
 -- Records, entries and states for the cases of the order of checks, in hexadecimal and by no name of the definitions. Underscores part the
 -- fields, in the order of document 01.
-use Prim.Native.Nat.{ℕ, _*_, _/_}
+use Prim.Native.Nat.{ℕ, _+_, _*_, _/_}
 use mathlib.Core.List.{List, [], _∷_, _++_, map, flatten}
 use lib.ListN.{length}
 use Rattle.octets.specs.Octets.{field, digits, groups, put}
@@ -52,6 +52,10 @@ unfoldable pub counted : ℕ → List ℕ
 counted n = digits 4 n ++ zeros 28
 
 -- ── entries
+
+-- A time of a day, Monday the first of all being day 0: day, hour, minute, second.
+abbrev pub at : ℕ → ℕ → ℕ → ℕ → ℕ
+at day hour minute second = day * 86400 + hour * 3600 + minute * 60 + second
 
 -- An entry with its operation, argument, time, instance, amount and value.
 unfoldable pub entry : ℕ → ℕ → ℕ → ℕ → ℕ → ℕ → List ℕ

@@ -19,6 +19,8 @@ pub mod Midnight
 pub mod Halves
 pub mod Limits
 pub mod Grants
+pub mod DayPasses
+pub mod Admissions
 pub mod Failures
 pub mod Operations
 pub mod Answers

@@ -1,16 +1,12 @@
 -- Document 02, job 3: "Shifts that cross midnight." Times in seconds: Friday begins at 345,600, Saturday at 432,000, Sunday at 518,400, the second
 -- Monday at 604,800; 6:00 is 21,600 and 22:00 is 79,200 seconds after midnight.
-use Prim.Native.Nat.{ℕ, _+_, _*_}
+use Prim.Native.Nat.{ℕ}
 use mathlib.Core.Path.{_≡_, refl}
 use mathlib.Core.List.{List, [], _∷_, _++_, map}
 use Rattle.cases.proofs.Change.{Field}
 use Rattle.cases.proofs.Fields.{flags, location-kind, weekdays, location, from-minute, to-minute}
-use Rattle.cases.proofs.Bytes.{bytes}
+use Rattle.cases.proofs.Bytes.{at, bytes}
 use Rattle.cases.proofs.Rules.{ruled, during, on}
-
--- A time of a day, Monday the first of all being day 0: day, hour, minute, second.
-abbrev at : ℕ → ℕ → ℕ → ℕ → ℕ
-at day hour minute second = day * 86400 + hour * 3600 + minute * 60 + second
 
 -- The events of the card under one rule, on these days from a minute to another.
 abbrev within : ℕ → ℕ → ℕ → List ℕ → List ℕ

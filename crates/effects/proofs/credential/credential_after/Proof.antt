@@ -3,6 +3,18 @@ use Rattle.model.specs.Effects.{credentialAfter}
 use Rattle.effects.proofs.credential.credential_after.Statement.{statement}
 use Rattle.effects.proofs.credential.credential_after.Tie as tie
 
-pub credential-after-spec : {M : Type 1} → statement M
+returns : tie.Need-returns
 unfolding credentialAfter
-credential-after-spec = tie.close (tie.spec (λ c κs. tt) (λ c κs. tt) (λ c κs. tt) (λ c κs. tt) (λ c κs. tt) (λ c κs. tt) (λ c. cc))
+returns c =
+    let p = c .before .before in
+    rw (
+      c .choose-long2 .ensures,
+      c .before .choose-long .ensures,
+      p .is-into-zone .ensures,
+      p .before .zone-after .ensures,
+      p .before .before .days-after .ensures,
+      p .before .before .before .uses-after .ensures,
+    )
+
+pub credential-after-spec : {M : Type 1} → statement M
+credential-after-spec = tie.close (tie.spec (λ c κs. tt) (λ c κs. tt) (λ c κs. tt) (λ c κs. tt) (λ c κs. tt) (λ c κs. tt) returns)

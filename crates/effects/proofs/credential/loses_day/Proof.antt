@@ -5,4 +5,4 @@ use Rattle.effects.proofs.credential.loses_day.Tie as tie
 
 pub loses-day-spec : {M : Type 1} → statement M
 unfolding losesDay
-loses-day-spec = tie.close (tie.spec (λ c κs. tt) (λ c κs. tt) (λ c. cc))
+loses-day-spec = tie.close (tie.spec (λ c κs. tt) (λ c κs. tt) (λ c. rw (c .date-of2 .ensures, c .before .date-of .ensures)))
