@@ -176,6 +176,7 @@ fn other_offsets() -> Vec<(&'static str, usize)> {
         ("CREDENTIAL_STATE_LAST_EVENT", credential_state::LAST_ACCESS_EVENT),
         ("CREDENTIAL_STATE_DISABLE", credential_state::CREDENTIAL_DISABLE),
         ("CREDENTIAL_STATE_LAST_POINT", credential_state::LAST_ACCESS_POINT),
+        ("CREDENTIAL_STATE_LAST_GRANT", credential_state::LAST_GRANT_TIME),
         ("ENTRY_OPERATION", entry::OPERATION),
         ("ENTRY_ARGUMENT", entry::ARGUMENT),
         ("ENTRY_TIME", entry::TIME),

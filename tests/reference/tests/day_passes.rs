@@ -1,5 +1,6 @@
-//! Day passes over lists of journal runs from the fresh state: as long as the times of a credential's
-//! grants never fall, its days are those left and the dates on which it was granted.
+//! Day passes over lists of journal runs from the fresh state: a credential's days are those left and
+//! those that its grants took; and, as long as the dates of its grants never fall, those left and the
+//! dates on which it was granted.
 
 use reference::answer::Answer;
 use reference::bytes::{get16, get32};
@@ -24,12 +25,14 @@ type Grants = BTreeMap<u32, Vec<u32>>;
 #[derive(Debug, Default)]
 struct Reached {
     turned_back: usize,
-    /// Credentials of limited days that are granted, at times that never fall.
+    /// Credentials of limited days that are granted, on dates that never fall.
     in_order: usize,
+    /// Those of them whose times fall all the same.
+    within_a_date: usize,
     on_several_dates: usize,
     twice_on_a_date: usize,
     run_down: usize,
-    /// Credentials of limited days that are granted at times that fall.
+    /// Credentials of limited days that are granted on dates that fall.
     set_back: usize,
     /// Those of them whose days are not those left and the dates.
     unequal: usize,
@@ -65,19 +68,31 @@ fn run_one(
     true
 }
 
+/// The days that grants on these dates take: the first takes one, and so does each that is on a later
+/// date than the one before it.
+fn days_taken(dates: &[u32]) -> usize {
+    let later = dates.windows(2).filter(|pair| pair[0] < pair[1]).count();
+    later + usize::from(!dates.is_empty())
+}
+
 /// Compares the days of one credential, which are limited.
 fn see_credential(days: u16, left: u16, times: &[u32], reached: &mut Reached) {
-    let dates: BTreeSet<u32> = times.iter().map(|&time| date(time)).collect();
-    let is_equal = usize::from(left) + dates.len() == usize::from(days);
-    if !times.is_sorted() {
+    let [days, left] = [days, left].map(usize::from);
+    let dates: Vec<u32> = times.iter().map(|&time| date(time)).collect();
+    let taken = days_taken(&dates);
+    assert_eq!(left + taken, days, "{left} left, granted at {times:?}");
+    let different = BTreeSet::from_iter(&dates).len();
+    let is_equal = left + different == days;
+    if !dates.is_sorted() {
         reached.set_back += 1;
         reached.unequal += usize::from(!is_equal);
         return;
     }
     assert!(is_equal, "{days} days, {left} left, granted at {times:?}");
     reached.in_order += usize::from(!times.is_empty());
-    reached.on_several_dates += usize::from(dates.len() > 1);
-    reached.twice_on_a_date += usize::from(times.len() > dates.len());
+    reached.within_a_date += usize::from(!times.is_sorted());
+    reached.on_several_dates += usize::from(different > 1);
+    reached.twice_on_a_date += usize::from(times.len() > different);
     reached.run_down += usize::from(days > 1 && left == 0);
 }
 
@@ -115,6 +130,7 @@ fn days_are_those_left_and_the_dates_of_grants_unless_the_clock_is_set_back() {
     println!("{reached:#?}");
     assert!(reached.turned_back > 1_000, "{reached:?}");
     assert!(reached.in_order > 1_000, "{reached:?}");
+    assert!(reached.within_a_date > 20, "{reached:?}");
     assert!(reached.on_several_dates > 500, "{reached:?}");
     assert!(reached.twice_on_a_date > 200, "{reached:?}");
     assert!(reached.run_down > 200, "{reached:?}");
