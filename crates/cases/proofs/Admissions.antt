@@ -33,7 +33,9 @@ pub falling :
 unfolding passes
 falling = refl
 
-pub differing : map different ([] ∷ (0 ∷ []) ∷ (3 ∷ 3 ∷ []) ∷ (3 ∷ 4 ∷ []) ∷ (3 ∷ 4 ∷ 3 ∷ []) ∷ (5 ∷ 4 ∷ 3 ∷ 4 ∷ 3 ∷ []) ∷ []) ≡ 0 ∷ 1 ∷ 1 ∷ 2 ∷ 2 ∷ 3 ∷ []
+pub differing :
+    map different ([] ∷ (0 ∷ []) ∷ (3 ∷ 3 ∷ []) ∷ (3 ∷ 4 ∷ []) ∷ (3 ∷ 4 ∷ 3 ∷ []) ∷ (5 ∷ 4 ∷ 3 ∷ []) ∷ (5 ∷ 4 ∷ 3 ∷ 4 ∷ 3 ∷ []) ∷ [])
+    ≡ 0 ∷ 1 ∷ 1 ∷ 2 ∷ 2 ∷ 3 ∷ 3 ∷ []
 unfolding passes
 differing = refl
 
