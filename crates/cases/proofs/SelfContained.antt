@@ -1,7 +1,7 @@
 -- "The self-contained part (demand 3)": what belongs to a part, what is across its border, which reads name a credential.
 use Prim.Native.Nat.{ℕ}
 use mathlib.Core.Path.{_≡_, refl}
-use mathlib.Core.List.{List, [], _∷_, _++_, map, flatten}
+use mathlib.Core.List.{List, [], _∷_, map, flatten}
 use mathlib.Core.Bool.{Bool, true, false}
 use lib.Dec.{eqb}
 use Rattle.octets.specs.Octets.{put}

@@ -24,7 +24,7 @@ use Rattle.model.specs.declared.Answer.{Answer}
 use Rattle.model.specs.declared.Outcome.{Outcome}
 use Rattle.model.specs.declared.Operation.{Operation}
 use Rattle.model.specs.declared.Operation.the-variants.{Factor, SetCount, AdjustCount, SetDisable, SetService, Unknown}
-use Rattle.model.proofs.Laws.{if-holds, kind-at, find-in, found, sites-write, sites-apply, find-write-other, find-write-same, all-found-in, found-in}
+use Rattle.model.proofs.Laws.{if-holds, kind-at, There, find-in, found, sites-write, sites-apply, find-write-other, find-write-same, all-found-in, found-in}
 use Rattle.model.proofs.RoundTrip.{count-back, event-back, refusal-back}
 use Rattle.model.proofs.Flat.{freshPanel, sites-fresh, find-fresh}
 use Rattle.model.proofs.Runs.{real-number, workedAt, allEntries, accepted, ended-panel, worked-list}
@@ -39,10 +39,7 @@ isPoint i = isAt n.access-point i
 
 -- ── a zone's count after a write
 
--- Zone z has a record; its count in a panel.
-abbrev There : ℕ → Panel → Type 0
-There z ps = missing (findIn (isZone z) (sites ps)) ≡ false
-
+-- Zone z's count in a panel.
 unfoldable zoneCount : ℕ → Panel → ℕ
 zoneCount z ps = count (find n.access-zone z ps .1)
 
@@ -61,7 +58,7 @@ count-other z on k i b ps d = ap (λ (x : Pair). count (x .1)) (find-write-other
 
 module _ (z : ℕ) (not-none : eqb z NONE ≡ false) where
   -- A write to a zone's record.
-  count-zone : (on : Bool) (i m : ℕ) (ps : Panel) → There z ps →
+  count-zone : (on : Bool) (i m : ℕ) (ps : Panel) → There n.access-zone z ps →
       zoneCount z (write on n.access-zone i (zoneBytes m) ps) ≡ (if on && eqb i z then m else zoneCount z ps)
   unfolding zoneCount
   count-zone on i m ps g = rw (find-write-same n.access-zone z not-none on i (zoneBytes m) ps g) (go (on && eqb i z))
@@ -71,11 +68,11 @@ module _ (z : ℕ) (not-none : eqb z NONE ≡ false) where
       go false = refl
 
   -- The four writes of an outcome.
-  count-apply : (o : Outcome) (ps : Panel) → There z ps → zoneCount z (apply o ps) ≡ countBy z o (zoneCount z ps)
+  count-apply : (o : Outcome) (ps : Panel) → There n.access-zone z ps → zoneCount z (apply o ps) ≡ countBy z o (zoneCount z ps)
   unfolding apply countBy
   count-apply o ps g =
       let from = o .«zone_from» in
-      let f : There z (write (from .written) n.access-zone (from .instance .0) (zoneBytes (from .count)) ps) = rw sites-write g in
+      let f : There n.access-zone z (write (from .written) n.access-zone (from .instance .0) (zoneBytes (from .count)) ps) = rw sites-write g in
       rw (count-other, count-other, count-zone, count-zone)
 
 -- ── what an accepted site says of its points
@@ -232,7 +229,7 @@ tallied-answer z ss ps b a t = rw (event-back a, refusal-back a)
 
 module _ (z : ℕ) (not-none : eqb z NONE ≡ false) where
   -- One entry: the count that it leaves is the standing of its tally.
-  count-entry : (b : List ℕ) (ps : Panel) (t : Tally) → pos (zoneCount z ps) ≡ standing t → all inRange (sites ps) ≡ true → There z ps →
+  count-entry : (b : List ℕ) (ps : Panel) (t : Tally) → pos (zoneCount z ps) ≡ standing t → all inRange (sites ps) ≡ true → There n.access-zone z ps →
       pos (zoneCount z (apply (entryOutcome ps (entryOf b)) ps))
       ≡ standing (tallied z (sites ps) (record { found = ps; entry = b; answer = answerBytes (entryOutcome ps (entryOf b) .answer) }) t)
   unfolding Fits
@@ -242,7 +239,7 @@ module _ (z : ℕ) (not-none : eqb z NONE ≡ false) where
 
   -- Any list of entries.
   count-entries : (bs : List (List ℕ)) (ps : Panel) (t : Tally) → pos (zoneCount z ps) ≡ standing t → all inRange (sites ps) ≡ true →
-      There z ps →
+      There n.access-zone z ps →
       pos (zoneCount z (after ps (map entryOf bs))) ≡ standing (tally z (sites ps) (workedAt ps bs) t)
   unfolding panels after answers tally workedAt
   count-entries [] ps t h a g = h
@@ -265,6 +262,6 @@ count-is-tally h z x =
     let s : sites ps ≡ records (h .site) = sites-fresh (records (h .site)) in
     let a : all inRange (sites ps) ≡ true = rw s (accepted h .in-range) in
     let y = not-true (missing (findIn (isZone z) (records (h .site)))) x in
-    let g : There z ps = rw s y in
+    let g : There n.access-zone z ps = rw s y in
     let f : pos (zoneCount z ps) ≡ standing (setTo 0) = rw (fresh-count z (records (h .site)) y) (standing-set 0) in
     rw (ended-panel h, worked-list h) (rw s at (count-entries z (real-number n.access-zone z (sites ps) a g) (allEntries h) ps (setTo 0) f a g))

@@ -11,7 +11,7 @@ use Rattle.model.specs.Numbers as n
 use Rattle.model.specs.Numbers.{NONE, NEVER, UNLIMITED}
 use Rattle.model.specs.Site.{credentialId, records, pointOf, isAt, findIn}
 use Rattle.model.specs.Accept.{exists}
-use Rattle.model.specs.State.{Pair, Panel, sites, find, seek, write, zoneBytes, credentialStateOf, credentialBytes, freshWith, freshCredential, freshRecord}
+use Rattle.model.specs.State.{Pair, Panel, find, seek, write, zoneBytes, credentialStateOf, credentialBytes, freshWith, freshCredential, freshRecord}
 use Rattle.model.specs.Entry.{entryOf, operationOf, objectKind, argumentsFit, inForm}
 use Rattle.model.specs.Checks.{waiting, eventOf}
 use Rattle.model.specs.Effects.{named, date, losesDay, daysAfter, credentialAfter, answerWith, outcomeWith, outcomeOf}
@@ -26,7 +26,7 @@ use Rattle.model.specs.declared.Outcome.{Outcome}
 use Rattle.model.specs.declared.CredentialState.{CredentialState}
 use Rattle.model.specs.declared.Operation.{Operation}
 use Rattle.model.specs.declared.Operation.the-variants.{Factor, SetCount, AdjustCount, SetDisable, SetService, Unknown}
-use Rattle.model.proofs.Laws.{if-holds, and-left, and-right, kind-at, sites-write, sites-apply, find-write-other, find-write-same, found-in}
+use Rattle.model.proofs.Laws.{if-holds, and-left, and-right, kind-at, There, sites-write, sites-apply, find-write-other, find-write-same, found-in}
 use Rattle.model.proofs.RoundTrip.{credential-back, event-back, credential-named-back}
 use Rattle.model.proofs.Flat.{freshPanel, sites-fresh, find-fresh}
 use Rattle.model.proofs.Runs.{real-number, workedAt, allEntries, accepted, ended-panel, worked-list}
@@ -37,10 +37,7 @@ use Rattle.model.proofs.Granted.{granted-days}
 abbrev isCredential : ℕ → List ℕ → Bool
 isCredential c = isAt n.access-credential c
 
--- Credential c has a record; its state in a panel.
-abbrev There : ℕ → Panel → Type 0
-There c ps = missing (findIn (isCredential c) (sites ps)) ≡ false
-
+-- Credential c's state in a panel.
 unfoldable held : ℕ → Panel → CredentialState
 held c ps = credentialStateOf (find n.access-credential c ps .1)
 
@@ -49,14 +46,14 @@ unfoldable heldBy : ℕ → Outcome → CredentialState → CredentialState
 heldBy c o s = if o .credential .written && eqb (o .credential .instance .0) c then o .credential .state else s
 
 -- The four writes of an outcome.
-held-apply : (c : ℕ) → eqb c NONE ≡ false → (o : Outcome) (ps : Panel) → There c ps → held c (apply o ps) ≡ heldBy c o (held c ps)
+held-apply : (c : ℕ) → eqb c NONE ≡ false → (o : Outcome) (ps : Panel) → There n.access-credential c ps → held c (apply o ps) ≡ heldBy c o (held c ps)
 unfolding apply held heldBy
 held-apply c not-none o ps g =
     let to = o .«zone_to» in
     let from = o .«zone_from» in
     let left = write (from .written) n.access-zone (from .instance .0) (zoneBytes (from .count)) ps in
     let moved = write (to .written) n.access-zone (to .instance .0) (zoneBytes (to .count)) left in
-    let there : There c moved = rw (sites-write, sites-write) g in
+    let there : There n.access-credential c moved = rw (sites-write, sites-write) g in
     rw (
       find-write-other n.access-credential c (o .point .written) n.access-point _ _ _ refl,
       find-write-same n.access-credential c not-none (o .credential .written) _ _ moved there,
@@ -257,7 +254,7 @@ module _ (c : ℕ) (not-none : eqb c NONE ≡ false) where
       go false w ws = refl
 
   -- Last grant after any list of entries.
-  last-entries : (bs : List (List ℕ)) (ps : Panel) → There c ps →
+  last-entries : (bs : List (List ℕ)) (ps : Panel) → There n.access-credential c ps →
       held c (after ps (map entryOf bs)) .«last_grant» ≡ lastOf (held c ps .«last_grant») (grantTimes c (workedAt ps bs))
   unfolding after lastOf
   last-entries [] ps g = unfold grantTimes workedAt panels in refl
@@ -273,7 +270,7 @@ module _ (c : ℕ) (not-none : eqb c NONE ≡ false) where
       go false t last ts = refl
 
   -- Days left after any list of entries, and the days that its grants took, of limited days.
-  days-entries : (bs : List (List ℕ)) (ps : Panel) → There c ps → held c ps .days < UNLIMITED →
+  days-entries : (bs : List (List ℕ)) (ps : Panel) → There n.access-credential c ps → held c ps .days < UNLIMITED →
       held c (after ps (map entryOf bs)) .days + takenFrom (held c ps .«last_grant») (grantTimes c (workedAt ps bs)) ≡ held c ps .days
   unfolding after
   days-entries [] ps g limited =
@@ -306,7 +303,7 @@ module _ (h : History) (c : ℕ) (x : exists (records (h .site)) n.access-creden
   not-none : eqb c NONE ≡ false
   not-none = real-number n.access-credential c (records (h .site)) (accepted h .in-range) site-record
 
-  there : There c (freshPanel (records (h .site)))
+  there : There n.access-credential c (freshPanel (records (h .site)))
   there = rw (sites-fresh (records (h .site))) site-record
 
   -- The state and the grants of the list, by its entries from the fresh panel.

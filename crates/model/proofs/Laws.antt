@@ -221,6 +221,10 @@ pub sites-apply : (o : Outcome) (ps : Panel) → sites (apply o ps) ≡ sites ps
 unfolding apply
 sites-apply o ps = simp sites-write
 
+-- an object of kind k and number i has a record
+abbrev pub There : ℕ → ℕ → Panel → Type 0
+There k i ps = missing (findIn (isAt k i) (sites ps)) ≡ false
+
 -- what is found after a write: what was found, if the test passes no record that is written
 find-store-other : (q : List ℕ → Bool) (k i : ℕ) (b : List ℕ) → ((s : List ℕ) → isAt k i s ≡ true → q s ≡ false) → (ps : Panel) →
     findBy q (store k i b ps) ≡ findBy q ps
@@ -255,8 +259,8 @@ find-write-other m j on k i b ps d = go (on && not (eqb i NONE))
     go false = refl
 
 -- and to one of its kind
-pub find-write-same : (m j : ℕ) → eqb j NONE ≡ false → (on : Bool) (i : ℕ) (b : List ℕ) (ps : Panel) →
-    missing (findIn (isAt m j) (sites ps)) ≡ false → find m j (write on m i b ps) .1 ≡ (if on && eqb i j then b else find m j ps .1)
+pub find-write-same : (m j : ℕ) → eqb j NONE ≡ false → (on : Bool) (i : ℕ) (b : List ℕ) (ps : Panel) → There m j ps →
+    find m j (write on m i b ps) .1 ≡ (if on && eqb i j then b else find m j ps .1)
 unfolding write find
 find-write-same m j not-none on i b ps g = go on (eqb i j) refl
   where

@@ -55,6 +55,28 @@ pub fn point_state_of(part: &[u8]) -> PointState
     }
 }
 
+// The fields of a credential's state that have a range, each by itself: the reader of the whole is not inlined where every record is checked.
+pub fn disable_of(part: &[u8]) -> u8
+    requires { ⌜ Part (now part) ⌝ }
+    ensures { λ r. ⌜ r ≡ credentialStateOf (now (part .entry)) .disable ⌝ }
+{
+    byte_at(part, layout::CREDENTIAL_STATE_DISABLE)
+}
+
+pub fn zone_of(part: &[u8]) -> ZoneId
+    requires { ⌜ Part (now part) ⌝ }
+    ensures { λ r. ⌜ r ≡ credentialStateOf (now (part .entry)) .zone ⌝ }
+{
+    ZoneId(reference_at(part, layout::CREDENTIAL_STATE_ZONE))
+}
+
+pub fn last_point_of(part: &[u8]) -> PointId
+    requires { ⌜ Part (now part) ⌝ }
+    ensures { λ r. ⌜ r ≡ credentialStateOf (now (part .entry)) .«last_point» ⌝ }
+{
+    PointId(reference_at(part, layout::CREDENTIAL_STATE_LAST_POINT))
+}
+
 pub fn credential_state_of(part: &[u8]) -> CredentialState
     requires { ⌜ Part (now part) ⌝ }
     ensures { λ r. ⌜ r ≡ credentialStateOf (now (part .entry)) ⌝ }
@@ -63,11 +85,11 @@ pub fn credential_state_of(part: &[u8]) -> CredentialState
         uses: short_at(part, layout::CREDENTIAL_STATE_USES),
         days: short_at(part, layout::CREDENTIAL_STATE_DAYS),
         last_use: long_at(part, layout::CREDENTIAL_STATE_LAST_USE),
-        zone: ZoneId(reference_at(part, layout::CREDENTIAL_STATE_ZONE)),
+        zone: zone_of(part),
         entered: long_at(part, layout::CREDENTIAL_STATE_ENTERED),
         last_event: short_at(part, layout::CREDENTIAL_STATE_LAST_EVENT),
-        disable: byte_at(part, layout::CREDENTIAL_STATE_DISABLE),
-        last_point: PointId(reference_at(part, layout::CREDENTIAL_STATE_LAST_POINT)),
+        disable: disable_of(part),
+        last_point: last_point_of(part),
         last_grant: long_at(part, layout::CREDENTIAL_STATE_LAST_GRANT),
     }
 }

@@ -4,13 +4,10 @@
 use reference::bytes::{get16, get32};
 use reference::entry::entries;
 use reference::generate::clock::base_time;
-use reference::generate::damage::{answers_length, damage};
-use reference::generate::{journal, site, Random};
+use reference::generate::{list_run, site, Random};
 use reference::journal::run_journal;
 use reference::layout::{answer, entry, zone_state};
-use reference::numbers::{
-    event, kind, operation, point_flag, refusal, ANSWER_LENGTH, ENTRY_LENGTH,
-};
+use reference::numbers::{event, kind, operation, point_flag, refusal, ANSWER_LENGTH};
 use reference::site::{find, instance_of, kind_of, record_at, records, PointRecord, ZoneRecord};
 use reference::state::{fresh_state, state_at};
 
@@ -83,15 +80,7 @@ fn run_one(
     state: &mut [u8],
     tallies: &mut [Tally],
 ) -> bool {
-    let length = random.below(20);
-    let mut journal = journal(random, base, site, length);
-    if random.sixteenths(2) {
-        damage(random, &mut journal, ENTRY_LENGTH);
-    }
-    let mut answers = vec![0; journal.len() / ENTRY_LENGTH * ANSWER_LENGTH];
-    if random.sixteenths(2) {
-        answers.resize(answers_length(random, journal.len()), 0);
-    }
+    let (journal, mut answers) = list_run(random, base, site, 20);
     if run_journal(site, state, &journal, &mut answers) != refusal::ACCEPTED {
         return false;
     }

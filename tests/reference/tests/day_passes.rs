@@ -6,13 +6,10 @@ use reference::answer::Answer;
 use reference::bytes::{get16, get32};
 use reference::entry::entries;
 use reference::generate::clock::base_time;
-use reference::generate::damage::{answers_length, damage};
-use reference::generate::{journal, site, Random};
+use reference::generate::{list_run, site, Random};
 use reference::journal::run_journal;
 use reference::layout::{credential_state, entry};
-use reference::numbers::{
-    event, kind, refusal, ANSWER_LENGTH, ENTRY_LENGTH, NEVER, SECONDS_PER_DAY, UNLIMITED,
-};
+use reference::numbers::{event, kind, refusal, ANSWER_LENGTH, NEVER, SECONDS_PER_DAY, UNLIMITED};
 use reference::site::{instance_of, kind_of, records, CredentialRecord};
 use reference::state::{fresh_state, state_at};
 use reference::time::date;
@@ -46,15 +43,7 @@ fn run_one(
     state: &mut [u8],
     grants: &mut Grants,
 ) -> bool {
-    let length = random.below(40);
-    let mut journal = journal(random, base, site, length);
-    if random.sixteenths(2) {
-        damage(random, &mut journal, ENTRY_LENGTH);
-    }
-    let mut answers = vec![0; journal.len() / ENTRY_LENGTH * ANSWER_LENGTH];
-    if random.sixteenths(2) {
-        answers.resize(answers_length(random, journal.len()), 0);
-    }
+    let (journal, mut answers) = list_run(random, base, site, 40);
     if run_journal(site, state, &journal, &mut answers) != refusal::ACCEPTED {
         return false;
     }

@@ -28,14 +28,8 @@ pub fn case(random: &mut Random) -> Case {
         damage(random, &mut site, RECORD_LENGTH);
     }
     let mut state = starting_state(random, base, &site);
-    if damaged && random.sixteenths(3) {
-        damage(random, &mut state, RECORD_LENGTH);
-    }
-    if damaged && random.sixteenths(3) {
-        states::spoil(random, &site, &mut state);
-    }
-    if damaged && random.sixteenths(3) {
-        damage_last_grant(random, &site, &mut state);
+    if damaged {
+        damage_state(random, &site, &mut state);
     }
     let entries = random.below(40);
     let mut journal = journals::journal(random, base, &site, entries);
@@ -57,6 +51,34 @@ pub fn case(random: &mut Random) -> Case {
         state,
         journal,
         answers: vec![random.byte(); answers_size],
+    }
+}
+
+/// The journal of one run of a list and the room for its answers, at times spoiled so that the run is
+/// turned back.
+pub fn list_run(random: &mut Random, base: u32, site: &[u8], most: usize) -> (Vec<u8>, Vec<u8>) {
+    let entries = random.below(most);
+    let mut journal = journals::journal(random, base, site, entries);
+    if random.sixteenths(2) {
+        damage(random, &mut journal, ENTRY_LENGTH);
+    }
+    let mut answers_size = journal.len() / ENTRY_LENGTH * ANSWER_LENGTH;
+    if random.sixteenths(2) {
+        answers_size = answers_length(random, journal.len());
+    }
+    (journal, vec![0; answers_size])
+}
+
+/// Damages a state in some of three ways, or in none.
+fn damage_state(random: &mut Random, site: &[u8], state: &mut Vec<u8>) {
+    if random.sixteenths(3) {
+        damage(random, state, RECORD_LENGTH);
+    }
+    if random.sixteenths(3) {
+        states::spoil(random, site, state);
+    }
+    if random.sixteenths(3) {
+        damage_last_grant(random, site, state);
     }
 }
 

@@ -8,7 +8,7 @@ pub mod random;
 pub mod sites;
 pub mod states;
 
-pub use case::{case, Case};
+pub use case::{case, list_run, Case};
 pub use journals::journal;
 pub use random::Random;
 pub use sites::{large_site, site};

@@ -7,4 +7,5 @@ use Rattle.state.proofs.well.credential_well.Tie as tie
 pub credential-well-spec : {M : Type 1} → statement M
 unfolding credentialWell
 credential-well-spec =
-    tie.close (tie.spec (λ c κs. search needs) (λ c κs. search needs) (λ c κs. search needs) (λ c κs. search needs) (λ c κs. search needs) (λ c. cc))
+    tie.close (tie.spec (λ c κs. search needs) (λ c κs. search needs) (λ c κs. search needs) (λ c κs. search needs) (λ c κs. search needs)
+    (λ c κs. search needs) (λ c κs. search needs) (λ c. cc))
