@@ -102,9 +102,20 @@ pub record Asked : Type 0 where
   -- A clock set back within a date is no matter.
   times-fall : inOrder 5 within-date ≡ true ∷ false ∷ []
   same-days : daysOf 5 within-date ≡ 3 ∷ 2 ∷ 2 ∷ 5 ∷ []
-  -- Of both theorems: the days are limited. Unlimited ones stay.
+  -- Of it and `DaysTaken`: the days are limited. Unlimited ones stay.
   days-stay : daysOf 6 unlimited ≡ 65535 ∷ 1 ∷ 1 ∷ 65535 ∷ []
+  -- Of `LastGrant`: the credential is in the site. Number 7 has no state, and reads as zero.
+  not-there : stateLeft 7 guests .«last_grant» ∷ lastOf NEVER (timesGranted 7 guests) ∷ [] ≡ 0 ∷ 4294967295 ∷ []
 
 pub asked : Asked
-unfolding passes daysOf inOrder set-back to-and-fro within-date unlimited
-asked = record { dates-fall = refl; fewer-days = refl; more-days = refl; times-fall = refl; same-days = refl; days-stay = refl }
+unfolding passes guests daysOf inOrder set-back to-and-fro within-date unlimited
+asked =
+    record {
+      dates-fall = refl;
+      fewer-days = refl;
+      more-days = refl;
+      times-fall = refl;
+      same-days = refl;
+      days-stay = refl;
+      not-there = refl;
+    }

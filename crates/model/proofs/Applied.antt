@@ -116,12 +116,12 @@ full = refl
 
 -- ── day passes
 
--- A pass of three days. Point 3 denies all, point 2 grants: denied at 8:00, granted at 10:00 and at 17:00, on the next date denied and granted.
+-- A pass of three days. Point 3 denies all, point 2 grants: denied at 8:00, granted at 10:00 and at 17:00, on the next date denied, granted and denied.
 unfoldable pub guest : History
 unfolding definitions examples
 guest =
     history (point 2 0 1 1 NONE NONE ∷ point 3 0 2 1 NONE NONE ∷ credential 5 NEVER 3 NONE ∷ card 5 55 ∷ [])
-    ((read 3 28800 55 ∷ read 2 36000 55 ∷ read 2 61200 55 ∷ []) ∷ cut ∷ (read 3 115200 55 ∷ read 2 122400 55 ∷ []) ∷ []) refl
+    ((read 3 28800 55 ∷ read 2 36000 55 ∷ read 2 61200 55 ∷ []) ∷ cut ∷ (read 3 115200 55 ∷ read 2 122400 55 ∷ read 3 126000 55 ∷ []) ∷ []) refl
 
 -- One name that opens it, and the definitions of DayPasses.
 unfoldable pub passes : Unit {0}
