@@ -4,8 +4,22 @@ use Rattle.model.specs.State.{credentialWell}
 use Rattle.state.proofs.well.credential_well.Statement.{statement}
 use Rattle.state.proofs.well.credential_well.Tie as tie
 
-pub credential-well-spec : {M : Type 1} → statement M
+returns : tie.Need-returns
 unfolding credentialWell
+returns c =
+    let p = c .before .before in
+    let q = p .before .before in
+    rw (
+      c .none-or-point-exists .ensures,
+      c .before .last-point-of .ensures,
+      p .none-or-zone-exists .ensures,
+      p .before .zone-of .ensures,
+      q .is-clear2 .ensures,
+      q .before .is-clear .ensures,
+      q .before .before .disable-of .ensures,
+    )
+
+pub credential-well-spec : {M : Type 1} → statement M
 credential-well-spec =
     tie.close (tie.spec (λ c κs. search needs) (λ c κs. search needs) (λ c κs. search needs) (λ c κs. search needs) (λ c κs. search needs)
-    (λ c κs. search needs) (λ c κs. search needs) (λ c. cc))
+    (λ c κs. search needs) (λ c κs. search needs) returns)
