@@ -5,13 +5,13 @@ use mathlib.Core.List.{List, [], _∷_, map}
 use mathlib.Core.Bool.{Bool, true, false, not, _&&_, and-false}
 use lib.Dec.{eqb, ltb}
 use lib.IntN.{pos, negℤ}
-use borrow.Author.Tests.{eqb-true, eq-eqb, not-true}
+use borrow.Author.Tests.{eqb-true, eq-eqb}
 use Rattle.octets.specs.Octets.{field}
 use Rattle.model.specs.Words.{if_then_else_, all, missing}
 use Rattle.model.specs.Numbers as n
 use Rattle.model.specs.Numbers.{NONE}
 use Rattle.model.specs.Site.{records, kind, instance, reference, zoneOf, pointOf, isAt, findIn}
-use Rattle.model.specs.Accept.{inRange, pointInRange, exists}
+use Rattle.model.specs.Accept.{inRange, pointInRange}
 use Rattle.model.specs.State.{Pair, Panel, sites, find, seek, write, count, zoneBytes, freshRecord}
 use Rattle.model.specs.Entry.{entryOf, operationOf, objectKind, inForm, answerBytes}
 use Rattle.model.specs.Checks.{eventOf}
@@ -27,7 +27,7 @@ use Rattle.model.specs.declared.Operation.the-variants.{Factor, SetCount
 use Rattle.model.proofs.Laws.{if-holds, kind-at, There, find-in, found, sites-write, sites-apply, find-write-other, find-write-same, all-found-in, found-in}
 use Rattle.model.proofs.RoundTrip.{count-back, event-back, refusal-back}
 use Rattle.model.proofs.Flat.{freshPanel, sites-fresh, find-fresh}
-use Rattle.model.proofs.Runs.{real-number, workedAt, allEntries, accepted, ended-panel, worked-list}
+use Rattle.model.proofs.Runs.{object-found, object-real, object-there, workedAt, allEntries, accepted, ended-panel, worked-list}
 use Rattle.model.proofs.Whole.{standing-set, standing-up, standing-down}
 
 -- The record is that of zone z, or of point i.
@@ -256,12 +256,11 @@ fresh-count z ss g = rw (find-fresh (isZone z) ss g, kind-at n.access-zone z (fi
 
 -- Every zone's count, after every list of runs from fresh.
 pub count-is-tally : Count
-unfolding Count countOf tallyOf exists zoneCount
+unfolding Count countOf tallyOf zoneCount
 count-is-tally h z x =
     let ps = freshPanel (records (h .site)) in
     let s : sites ps ≡ records (h .site) = sites-fresh (records (h .site)) in
     let a : all inRange (sites ps) ≡ true = rw s (accepted h .in-range) in
-    let y = not-true (missing (findIn (isZone z) (records (h .site)))) x in
-    let g : There n.access-zone z ps = rw s y in
-    let f : pos (zoneCount z ps) ≡ standing (setTo 0) = rw (fresh-count z (records (h .site)) y) (standing-set 0) in
-    rw (ended-panel h, worked-list h) (rw s at (count-entries z (real-number n.access-zone z (sites ps) a g) (allEntries h) ps (setTo 0) f a g))
+    let f : pos (zoneCount z ps) ≡ standing (setTo 0) = rw (fresh-count z (records (h .site)) (object-found h n.access-zone z x)) (standing-set 0) in
+    rw (ended-panel h, worked-list h)
+    (rw s at (count-entries z (object-real h n.access-zone z x) (allEntries h) ps (setTo 0) f a (object-there h n.access-zone z x)))

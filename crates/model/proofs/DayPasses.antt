@@ -10,7 +10,6 @@ use Rattle.model.specs.Words.{if_then_else_, any, all, bitOf, missing}
 use Rattle.model.specs.Numbers as n
 use Rattle.model.specs.Numbers.{NONE, NEVER, UNLIMITED}
 use Rattle.model.specs.Site.{credentialId, records, pointOf, isAt, findIn}
-use Rattle.model.specs.Accept.{exists}
 use Rattle.model.specs.State.{Pair, Panel, find, seek, write, zoneBytes, credentialStateOf, credentialBytes, freshWith, freshCredential, freshRecord}
 use Rattle.model.specs.Entry.{entryOf, operationOf, objectKind, argumentsFit, inForm}
 use Rattle.model.specs.Checks.{waiting, eventOf}
@@ -28,8 +27,8 @@ use Rattle.model.specs.declared.Operation.{Operation}
 use Rattle.model.specs.declared.Operation.the-variants.{Factor, SetCount, AdjustCount, SetDisable, SetService, Unknown}
 use Rattle.model.proofs.Laws.{if-holds, and-left, and-right, kind-at, There, sites-write, sites-apply, find-write-other, find-write-same, found-in}
 use Rattle.model.proofs.RoundTrip.{credential-back, event-back, credential-named-back}
-use Rattle.model.proofs.Flat.{freshPanel, sites-fresh, find-fresh}
-use Rattle.model.proofs.Runs.{real-number, workedAt, allEntries, accepted, ended-panel, worked-list}
+use Rattle.model.proofs.Flat.{freshPanel, find-fresh}
+use Rattle.model.proofs.Runs.{object-found, object-real, object-there, workedAt, allEntries, ended-panel, worked-list}
 use Rattle.model.proofs.Granted.{granted-days}
 
 -- ── a credential's state after a write
@@ -294,19 +293,8 @@ held-fresh c ss g =
     rw (find-fresh (isCredential c) ss g, kind-at n.access-credential c (findIn (isCredential c) ss) (found-in (isCredential c) ss g))
     (credential-back (freshCredential (findIn (isCredential c) ss)))
 
--- A credential of an accepted site.
-module _ (h : History) (c : ℕ) (x : exists (records (h .site)) n.access-credential c ≡ true) where
-  site-record : missing (findIn (isCredential c) (records (h .site))) ≡ false
-  unfolding exists
-  site-record = not-true (missing (findIn (isCredential c) (records (h .site)))) x
-
-  not-none : eqb c NONE ≡ false
-  not-none = real-number n.access-credential c (records (h .site)) (accepted h .in-range) site-record
-
-  there : There n.access-credential c (freshPanel (records (h .site)))
-  there = rw (sites-fresh (records (h .site))) site-record
-
-  -- The state and the grants of the list, by its entries from the fresh panel.
+-- The state and the grants of the list, by its entries from the fresh panel.
+module _ (h : History) (c : ℕ) where
   state-left : stateLeft c h ≡ held c (after (freshPanel (records (h .site))) (map entryOf (allEntries h)))
   unfolding stateLeft held
   state-left = rw (ended-panel h)
@@ -319,16 +307,16 @@ pub last-grant : LastGrant
 unfolding LastGrant freshCredential freshWith
 last-grant h c x =
     let ps = freshPanel (records (h .site)) in
-    rw (state-left h c x, times-granted h c x)
-    (rw (held-fresh c (records (h .site)) (site-record h c x)) at (last-entries c (not-none h c x) (allEntries h) ps (there h c x)))
+    rw (state-left h c, times-granted h c)
+    (rw (held-fresh c (records (h .site)) (object-found h n.access-credential c x)) at (last-entries c (object-real h n.access-credential c x) (allEntries h) ps (object-there h n.access-credential c x)))
 
 pub days-taken : DaysTaken
 unfolding DaysTaken datesGranted daysInSite freshCredential freshWith takenFrom
 days-taken h c x limited =
     let ps = freshPanel (records (h .site)) in
-    let f = held-fresh c (records (h .site)) (site-record h c x) in
-    rw (state-left h c x, times-granted h c x)
-    (rw f at (days-entries c (not-none h c x) (allEntries h) ps (there h c x) (rw f limited)))
+    let f = held-fresh c (records (h .site)) (object-found h n.access-credential c x) in
+    rw (state-left h c, times-granted h c)
+    (rw f at (days-entries c (object-real h n.access-credential c x) (allEntries h) ps (object-there h n.access-credential c x) (rw f limited)))
 
 -- ── dates that never fall
 

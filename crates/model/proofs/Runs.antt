@@ -6,19 +6,19 @@ use mathlib.Core.List.{List, [], _∷_, _++_, map, map-append, flatten}
 use mathlib.Core.Bool.{Bool, true, false, not, _||_}
 use lib.Dec.{ltb, eqb}
 use lib.ListN.{length}
-use borrow.Author.Tests.{eqb-true, ne-eqb, ltb-true, not-false}
+use borrow.Author.Tests.{eqb-true, ne-eqb, ltb-true, not-true, not-false}
 use Rattle.model.specs.Words.{if_then_else_, all, missing}
 use Rattle.model.specs.Numbers.{NONE}
 use Rattle.model.specs.Site.{records, instance, isAt, findIn}
-use Rattle.model.specs.Accept.{inRange, twice, namesExist}
+use Rattle.model.specs.Accept.{inRange, twice, exists, namesExist}
 use Rattle.model.specs.State.{Panel, panel, stateOf, fresh}
 use Rattle.model.specs.Entry.{entryOf, entries, answerBytes}
 use Rattle.model.specs.Step.{apply, entryOutcome, panels, after, answers}
 use Rattle.model.specs.Calls.{isWorked, checkSite, freshReturned, freshState, runReturned, runJournal}
 use Rattle.model.specs.Lists.{Run, runOn, stateAfter, Worked, withAnswers, answersIn, workedBy, workedIn, History, begun, ended, worked}
-use Rattle.model.proofs.Laws.{and-left, or-left, instance-at, all-found-in, found-in}
+use Rattle.model.proofs.Laws.{and-left, or-left, instance-at, There, all-found-in, found-in}
 use Rattle.model.proofs.RoundTrip.{length-answer}
-use Rattle.model.proofs.Flat.{Sized, length-flatten, groups-flatten, panel-back, length-back, freshPanel, panel-fresh, length-fresh}
+use Rattle.model.proofs.Flat.{Sized, length-flatten, groups-flatten, panel-back, length-back, freshPanel, sites-fresh, panel-fresh, length-fresh}
 use Rattle.model.specs.declared.Entry.{Entry}
 use Rattle.model.specs.declared.Answer.{Answer}
 use Rattle.model.specs.declared.Returned.{Returned}
@@ -53,7 +53,7 @@ site-accepted site h =
     }
 
 -- No object of it has the number NONE.
-pub real-number : (k i : ℕ) (ss : List (List ℕ)) → all inRange ss ≡ true → missing (findIn (isAt k i) ss) ≡ false → eqb i NONE ≡ false
+real-number : (k i : ℕ) (ss : List (List ℕ)) → all inRange ss ≡ true → missing (findIn (isAt k i) ss) ≡ false → eqb i NONE ≡ false
 unfolding inRange
 real-number k i ss a g =
     let s = findIn (isAt k i) ss in
@@ -228,3 +228,15 @@ unfolding worked allEntries
 worked-list h =
     list-worked (h .site) (accepted h .whole-records) (h .runs) (begun h) (begun-length h)
     ∙ ap (λ ps. workedAt ps (entriesIn (h .site) (begun h) (h .runs))) (begun-panel h)
+
+-- An object of the site: its record, its number, its place in the fresh panel.
+module _ (h : History) (k i : ℕ) (x : exists (records (h .site)) k i ≡ true) where
+  pub object-found : missing (findIn (isAt k i) (records (h .site))) ≡ false
+  unfolding exists
+  object-found = not-true (missing (findIn (isAt k i) (records (h .site)))) x
+
+  pub object-real : eqb i NONE ≡ false
+  object-real = real-number k i (records (h .site)) (accepted h .in-range) object-found
+
+  pub object-there : There k i (freshPanel (records (h .site)))
+  object-there = rw (sites-fresh (records (h .site))) object-found

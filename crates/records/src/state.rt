@@ -56,14 +56,14 @@ pub fn point_state_of(part: &[u8]) -> PointState
 }
 
 // The fields of a credential's state that have a range, each by itself: the reader of the whole is not inlined where every record is checked.
-pub fn disable_of(part: &[u8]) -> u8
+pub fn credential_disable_of(part: &[u8]) -> u8
     requires { ⌜ Part (now part) ⌝ }
     ensures { λ r. ⌜ r ≡ credentialStateOf (now (part .entry)) .disable ⌝ }
 {
     byte_at(part, layout::CREDENTIAL_STATE_DISABLE)
 }
 
-pub fn zone_of(part: &[u8]) -> ZoneId
+pub fn credential_zone_of(part: &[u8]) -> ZoneId
     requires { ⌜ Part (now part) ⌝ }
     ensures { λ r. ⌜ r ≡ credentialStateOf (now (part .entry)) .zone ⌝ }
 {
@@ -85,10 +85,10 @@ pub fn credential_state_of(part: &[u8]) -> CredentialState
         uses: short_at(part, layout::CREDENTIAL_STATE_USES),
         days: short_at(part, layout::CREDENTIAL_STATE_DAYS),
         last_use: long_at(part, layout::CREDENTIAL_STATE_LAST_USE),
-        zone: zone_of(part),
+        zone: credential_zone_of(part),
         entered: long_at(part, layout::CREDENTIAL_STATE_ENTERED),
         last_event: short_at(part, layout::CREDENTIAL_STATE_LAST_EVENT),
-        disable: disable_of(part),
+        disable: credential_disable_of(part),
         last_point: last_point_of(part),
         last_grant: long_at(part, layout::CREDENTIAL_STATE_LAST_GRANT),
     }

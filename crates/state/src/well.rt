@@ -12,11 +12,11 @@ use model::numbers::NONE;
 use model::numbers::RECORD_SIZE;
 use records::site::most_failures_of;
 use records::site::record_kind_of;
-use records::state::disable_of;
+use records::state::credential_disable_of;
+use records::state::credential_zone_of;
 use records::state::last_point_of;
 use records::state::locked_byte_of;
 use records::state::point_state_of;
-use records::state::zone_of;
 use site::indexed::none_or_credential_exists;
 use site::indexed::none_or_point_exists;
 use site::indexed::none_or_zone_exists;
@@ -62,14 +62,14 @@ fn credential_well(site: &[u8], index: &[u16], t: &[u8]) -> bool
     requires { ⌜ length (now t) ≡ 32 ⌝ }
     ensures { λ r. ⌜ r ≡ credentialWell (records (now (site .entry))) (now (t .entry)) ⌝ }
 {
-    (disable_of(t) <= LARGEST_DISABLE)
+    (credential_disable_of(t) <= LARGEST_DISABLE)
         & is_clear(t, layout::CREDENTIAL_STATE_SPARE_BYTE, 1)
         & is_clear(
             t,
             layout::CREDENTIAL_STATE_SPARE,
             layout::CREDENTIAL_STATE_SPARE_SIZE,
         )
-        & none_or_zone_exists(site, index, zone_of(t))
+        & none_or_zone_exists(site, index, credential_zone_of(t))
         & none_or_point_exists(site, index, last_point_of(t))
 }
 

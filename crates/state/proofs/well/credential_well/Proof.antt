@@ -13,10 +13,10 @@ returns c =
       c .none-or-point-exists .ensures,
       c .before .last-point-of .ensures,
       p .none-or-zone-exists .ensures,
-      p .before .zone-of .ensures,
+      p .before .credential-zone-of .ensures,
       q .is-clear2 .ensures,
       q .before .is-clear .ensures,
-      q .before .before .disable-of .ensures,
+      q .before .before .credential-disable-of .ensures,
     )
 
 pub credential-well-spec : {M : Type 1} → statement M

@@ -1,9 +1,0 @@
--- Read from its place.
-use borrow.Author.Needs.{needs}
-use Rattle.model.specs.State.{credentialStateOf}
-use Rattle.records.proofs.state.zone_of.Statement.{statement}
-use Rattle.records.proofs.state.zone_of.Tie as tie
-
-pub zone-of-spec : {M : Type 1} → statement M
-unfolding credentialStateOf
-zone-of-spec = tie.close (tie.spec (λ c κs. search needs) (λ c. cc))
