@@ -1,9 +1,13 @@
-// What a factor read leaves at the credential: uses, days, zone, last use, last grant.
+// What a factor read leaves at the credential: uses, days, zone, wrong tries and disable, last use, last grant.
 ghost use mathlib.Core.Path.{_≡_};
-ghost use Rattle.model.specs.Effects.{zoneAfter, usesAfter, losesDay, daysAfter, credentialAfter};
+ghost use Rattle.model.specs.Effects.{zoneAfter, usesAfter, losesDay, daysAfter, isWrongTry, wrongTriesWith, reachesMost, wrongTriesAfter, disableReached, credentialAfter};
+use crate::words::count_kept;
 use crate::words::date_of;
+use crate::words::of_byte;
 use crate::words::one_less;
+use crate::words::one_more;
 use conditions::is_into_zone;
+use conditions::words::choose_byte;
 use conditions::words::choose_long;
 use conditions::words::choose_short;
 use conditions::words::choose_zone;
@@ -12,6 +16,9 @@ use model::Entry;
 use model::PointId;
 use model::Situation;
 use model::ZoneId;
+use model::numbers::DENIED_AUTHENTICATION_FACTOR_TIMEOUT;
+use model::numbers::DENIED_INCORRECT_AUTHENTICATION_FACTOR;
+use model::numbers::DISABLE_LOCKOUT;
 use model::numbers::GRANTED;
 use model::numbers::NEVER;
 use model::numbers::NONE;
@@ -58,6 +65,52 @@ pub fn days_after(v: Situation, e: Entry, x: u16) -> u16
     )
 }
 
+// A wrong code or one that came too late, of a credential that counts them.
+pub fn is_wrong_try(v: Situation, x: u16) -> bool
+    ensures { λ r. ⌜ r ≡ isWrongTry v x ⌝ }
+{
+    (v.credential.most_wrong_tries != 0)
+        & ((x == DENIED_AUTHENTICATION_FACTOR_TIMEOUT)
+            | (x == DENIED_INCORRECT_AUTHENTICATION_FACTOR))
+}
+
+// The wrong tries with this one; 256 needs a second byte.
+pub fn wrong_tries_with(v: Situation) -> u16
+    ensures { λ r. ⌜ r ≡ wrongTriesWith v ⌝ }
+{
+    one_more(v.credential_state.wrong_tries)
+}
+
+// The event is the wrong try that locks the credential out.
+pub fn reaches_most(v: Situation, x: u16) -> bool
+    ensures { λ r. ⌜ r ≡ reachesMost v x ⌝ }
+{
+    is_wrong_try(v, x) & (of_byte(v.credential.most_wrong_tries) <= wrong_tries_with(v))
+}
+
+pub fn wrong_tries_after(v: Situation, x: u16) -> u8
+    ensures { λ r. ⌜ r ≡ wrongTriesAfter v x ⌝ }
+{
+    count_kept(
+        x == GRANTED,
+        is_wrong_try(v, x),
+        v.credential.most_wrong_tries,
+        wrong_tries_with(v),
+        v.credential_state.wrong_tries,
+    )
+}
+
+// A credential at its most is locked out, whatever its disable was.
+pub fn disable_reached(v: Situation, x: u16) -> u8
+    ensures { λ r. ⌜ r ≡ disableReached v x ⌝ }
+{
+    choose_byte(
+        reaches_most(v, x),
+        DISABLE_LOCKOUT,
+        v.credential_state.disable,
+    )
+}
+
 // The credential's state after the event.
 pub fn credential_after(v: Situation, e: Entry, x: u16) -> CredentialState
     ensures { λ r. ⌜ r ≡ credentialAfter v e x ⌝ }
@@ -71,6 +124,8 @@ pub fn credential_after(v: Situation, e: Entry, x: u16) -> CredentialState
     c.zone = zone_after(v, x);
     c.entered = choose_long((x == GRANTED) & is_into_zone(v), e.time, held.entered);
     c.last_event = x;
+    c.disable = disable_reached(v, x);
+    c.wrong_tries = wrong_tries_after(v, x);
     c.last_point = point;
     c.last_grant = choose_long(x == GRANTED, e.time, held.last_grant);
     c

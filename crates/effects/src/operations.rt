@@ -145,13 +145,14 @@ pub fn adjust_outcome(e: Entry, n: u32) -> Outcome
     count_outcome(e, count as u32)
 }
 
-// ---- operation 4: a credential's disable
+// ---- operation 4: a credential's disable; its wrong tries begin again
 
 fn disable_after(held: CredentialState, disable: u8) -> CredentialState
     ensures { λ r. ⌜ r ≡ disableAfter held disable ⌝ }
 {
     let mut c = held;
     c.disable = disable;
+    c.wrong_tries = 0;
     c
 }
 

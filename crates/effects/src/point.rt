@@ -1,9 +1,7 @@
 // What a factor read leaves at the point: failures, lockout, wait.
 ghost use mathlib.Core.Path.{_≡_};
-ghost use mathlib.Core.Bool.{_&&_, _||_};
-ghost use lib.Dec.{leb};
-ghost use Rattle.model.specs.Words.{if_then_else_};
 ghost use Rattle.model.specs.Effects.{isFailure, failuresBefore, isFirstFailure, failuresWith, locksOut, pointAfter};
+use crate::words::count_kept;
 use crate::words::next_tag;
 use crate::words::of_byte;
 use crate::words::one_more;
@@ -19,8 +17,6 @@ use model::Entry;
 use model::PointState;
 use model::Situation;
 use model::numbers::DENIED_AUTHENTICATION_FACTOR_ERROR;
-use model::numbers::DENIED_AUTHENTICATION_FACTOR_TIMEOUT;
-use model::numbers::DENIED_INCORRECT_AUTHENTICATION_FACTOR;
 use model::numbers::DENIED_LOCKOUT;
 use model::numbers::DENIED_UNKNOWN_CREDENTIAL;
 use model::numbers::GRANTED;
@@ -33,8 +29,6 @@ pub fn is_failure(v: Situation, x: u16) -> bool
 {
     (v.point.most_failures != 0)
         & ((x == DENIED_UNKNOWN_CREDENTIAL)
-            | (x == DENIED_AUTHENTICATION_FACTOR_TIMEOUT)
-            | (x == DENIED_INCORRECT_AUTHENTICATION_FACTOR)
             | (x == DENIED_AUTHENTICATION_FACTOR_ERROR))
 }
 
@@ -68,22 +62,6 @@ pub fn locks_out(v: Situation, e: Entry, x: u16) -> bool
     is_failure(v, x) & (of_byte(v.point.most_failures) <= failures_with(v, e))
 }
 
-// The failures that are kept: those with this one are kept only below the most, where they have one byte.
-fn failures_after(granted: bool, failing: bool, most: u8, with: u16, before: u8) -> u8
-    ensures { λ r. ⌜ r ≡ if granted || failing && leb most with then 0 else if failing then with else before ⌝ }
-{
-    if granted {
-        return 0;
-    }
-    if failing {
-        if most as u16 <= with {
-            return 0;
-        }
-        return with as u8;
-    }
-    before
-}
-
 // The point's state after the event.
 pub fn point_after(v: Situation, e: Entry, x: u16) -> PointState
     ensures { λ r. ⌜ r ≡ pointAfter v e x ⌝ }
@@ -99,7 +77,7 @@ pub fn point_after(v: Situation, e: Entry, x: u16) -> PointState
     );
     let mut p = held;
     p.tag = next_tag(held.tag);
-    p.failures = failures_after(
+    p.failures = count_kept(
         x == GRANTED,
         failing,
         v.point.most_failures,

@@ -1,6 +1,9 @@
-// Sums and differences of numbers, and dates.
+// Sums and differences of numbers, dates, counts up to a most.
 ghost use mathlib.Core.Path.{_≡_};
+ghost use mathlib.Core.Bool.{_&&_, _||_};
+ghost use lib.Dec.{leb};
 ghost use Prim.Native.Nat.{_+_, _-_};
+ghost use Rattle.model.specs.Words.{if_then_else_};
 ghost use Rattle.model.specs.Effects.{nextTag, date};
 use model::numbers::MODULUS;
 use model::numbers::SECONDS_OF_DAY;
@@ -48,4 +51,20 @@ pub fn count_less(n: u32) -> u32
         return 0;
     }
     n - 1
+}
+
+// The failures, or wrong tries, that are kept: those with this one are kept only below the most, where they have one byte.
+pub fn count_kept(granted: bool, failing: bool, most: u8, with: u16, before: u8) -> u8
+    ensures { λ r. ⌜ r ≡ if granted || failing && leb most with then 0 else if failing then with else before ⌝ }
+{
+    if granted {
+        return 0;
+    }
+    if failing {
+        if most as u16 <= with {
+            return 0;
+        }
+        return with as u8;
+    }
+    before
 }

@@ -7,7 +7,7 @@ use mathlib.Core.Bool.{Bool, true, false, _&&_}
 use lib.Dec.{eqb}
 use lib.ListN.{length, take, drop, getD, length-append, length-map, length-drop}
 use lib.Seq.{take-at, drop-at, length-take-le}
-use borrow.Author.Tests.{eqb-true}
+use borrow.Author.Tests.{eqb-true, eq-eqb}
 use Rattle.octets.specs.Octets.{groups}
 use Rattle.octets.proofs.Groups.{length-groups, joined-back}
 use Rattle.model.specs.Words.{if_then_else_, keep, all, missing}
@@ -43,6 +43,14 @@ groups-flatten size [] h = refl
 groups-flatten size (x ∷ xs) h =
     let l = eqb-true (length x) size (and-left (eqb (length x) size) (Sized size xs) h) in
     rw (take-at x (flatten xs) size l, drop-at x (flatten xs) size l, groups-flatten size xs (and-right (eqb (length x) size) (Sized size xs) h))
+
+-- The groups of a list that is as long as all of them have that size.
+pub groups-sized : (size n : ℕ) (s : List ℕ) → length s ≡ n * size → Sized size (groups size n s) ≡ true
+unfolding groups
+groups-sized size zero s h = refl
+groups-sized size (suc n) s h =
+    let m : suc n * size ≡ n * size + size = native.Mathlib.Nat.suc-mul n size in
+    rw (eq-eqb (length (take size s)) size (length-take-le size s (omega arith)), groups-sized size n (drop size s) (simp length-drop (omega arith)))
 
 -- ── panels of 32-byte records
 

@@ -27,7 +27,7 @@ use Rattle.model.proofs.RoundTrip.{event-back, credential-named-back}
 use Rattle.model.proofs.Flat.{sites-after, sites-panel, panel-back}
 use Rattle.model.proofs.Runs.{site-accepted, site-worked, worked-through}
 use Rattle.model.proofs.Entries.{lengths, run-accepted, state-at, answer-at}
-use Rattle.model.proofs.Well.{credential-sought}
+use Rattle.model.proofs.Well.{CredentialSound, credential-sought}
 use Rattle.model.proofs.WellStep.{well-after}
 use Rattle.model.specs.declared.CredentialId.{CredentialId}
 use Rattle.model.specs.declared.Situation.{Situation}
@@ -311,9 +311,10 @@ no-disable d l a b c =
     let w = eqb-false d 3 c in
     omega arith
 
--- The situation of a granted entry, at the point's records p. The credential's disable is in range in a well-formed state.
+-- The situation of a granted entry, at the point's records p. The credential's disable is in range and its wrong tries are below its most in a
+-- well-formed state.
 granted-situation : (ps : Panel) (e : Entry) (p : Pair) → pointOf (p .0) .«out_of_service» ≡ false →
-    leb (situationOf ps e p .«credential_state» .disable) 3 ≡ true → eventOf (situationOf ps e p) (rulesAt ps e p) e ≡ 1 →
+    CredentialSound (sites ps) (situationOf ps e p .credential .«most_wrong_tries») (situationOf ps e p .«credential_state») → eventOf (situationOf ps e p) (rulesAt ps e p) e ≡ 1 →
     EarnedAt (situationOf ps e p) (sites ps) (factorRead ps e p) e (numberRead ps e p)
 unfolding situationOf factorRead numberRead rulesAt said waiting
 granted-situation ps e p s d h =
@@ -332,9 +333,10 @@ granted-situation ps e p s d h =
       in-time = a .authentic .in-time;
       active = c .active;
       unexpired = c .unexpired;
-      credential-enabled = no-disable (situationOf ps e p .«credential_state» .disable) d (c .not-disabled) (c .not-manual) (c .not-lockout);
+      credential-enabled = no-disable (situationOf ps e p .«credential_state» .disable) (d .disabled) (c .not-disabled) (c .not-manual) (c .not-lockout);
       days-left = positive (situationOf ps e p .«credential_state» .days) (c .days);
       uses-left = positive (situationOf ps e p .«credential_state» .uses) (c .uses);
+      tries-left = d .tries;
       not-absent = c .not-absent;
       authorized = a .is-authorized;
       countable = a .is-countable;
@@ -421,11 +423,12 @@ earned-entry ps e w h =
     let c : entryOutcome ps e .answer .credential ≡ numberRead ps e p = g .number ∙ ap (numberRead ps e) k in (
       g .is-factor,
       rw c (granted-situation ps e p (ap (λ (x : Pair). pointOf (x .0) .«out_of_service») (sym k) ∙ g .in-service)
-          (disable-well ps e p w) (ap (λ x. eventOf (situationOf ps e x) (rulesAt ps e x) e) (sym k) ∙ g .event)),
+          credential-read (ap (λ x. eventOf (situationOf ps e x) (rulesAt ps e x) e) (sym k) ∙ g .event)),
     )
   where
-    disable-well : (ps : Panel) (e : Entry) (p : Pair) → all (recordWell (sites ps)) ps ≡ true → leb (situationOf ps e p .«credential_state» .disable) 3 ≡ true
-    disable-well ps e p w = unfold situationOf credentialAt in credential-sought (sites ps) ps w (numberRead ps e p .0) .disabled
+    credential-read : let v = situationOf ps e (find n.access-point (e .instance) ps) in
+        CredentialSound (sites ps) (v .credential .«most_wrong_tries») (v .«credential_state»)
+    credential-read = unfold situationOf credentialAt in credential-sought (sites ps) ps w (numberRead ps e _ .0)
 
 -- ── every run that is worked through
 

@@ -36,7 +36,7 @@ module _ (P : Part) where
   -- ── what is found of the part is found among the part's records
 
   -- An object of the part.
-  find-part : (k i : ℕ) (ps : Panel) → member P k i ≡ true → find k i (only (holds P) ps) ≡ find k i ps
+  pub find-part : (k i : ℕ) (ps : Panel) → member P k i ≡ true → find k i (only (holds P) ps) ≡ find k i ps
   unfolding find
   find-part k i ps h = find-only (holds P) (isAt k i) ps (λ a. holds-at P k i _ a ∙ h)
 

@@ -25,7 +25,7 @@ use Rattle.model.proofs.Border.{none-side, holds-at, part-apply, Sided,
 use Rattle.model.proofs.Isolated.{outcome-part}
 
 -- An entry with its answer at a panel.
-abbrev answered : Panel → List ℕ → Worked
+abbrev pub answered : Panel → List ℕ → Worked
 answered ps b = record { found = ps; entry = b; answer = answerBytes (entryOutcome ps (entryOf b) .answer) }
 
 -- The entries of a list, as their fields.
@@ -76,7 +76,7 @@ module _ (P : Part) where
       go false e = refl
 
   -- Every record of a fresh panel is inside.
-  fresh-inside : (ss : List (List ℕ)) → all (inside P) ss ≡ true → all (pairInside P) (freshPanel ss) ≡ true
+  pub fresh-inside : (ss : List (List ℕ)) → all (inside P) ss ≡ true → all (pairInside P) (freshPanel ss) ≡ true
   unfolding pairInside
   fresh-inside [] h = refl
   fresh-inside (s ∷ ss) h =
@@ -91,9 +91,24 @@ module _ (P : Part) where
     same-records : only (holds P) (after ps (map entryOf bs)) ≡ after (only (holds P) ps) (entriesOf ws)
 
   -- The premise on reads, of one entry.
-  entry-inside : (ps : Panel) (b : List ℕ) → readInside P (answered ps b) ≡ true → answeredInside P ps (entryOf b) ≡ true
+  pub entry-inside : (ps : Panel) (b : List ℕ) → readInside P (answered ps b) ≡ answeredInside P ps (entryOf b)
   unfolding readInside entryInside answeredInside answeredInsideAs entryOutcome outcomeAs
-  entry-inside ps b g = rw (refusal-back (entryOutcome ps (entryOf b) .answer)) at g
+  entry-inside ps b = rw (refusal-back (entryOutcome ps (entryOf b) .answer))
+
+  -- An entry leaves every record inside.
+  pub inside-after : (ps : Panel) (e : Entry) → all (pairInside P) ps ≡ true → answeredInside P ps e ≡ true →
+      all (pairInside P) (apply (entryOutcome ps e) ps) ≡ true
+  inside-after ps e h g = apply-inside _ _ ps (sided P ps e h g) h
+
+  -- The part's records after an entry of the part are those that it leaves at them alone.
+  pub part-in : (ps : Panel) (e : Entry) → all (pairInside P) ps ≡ true → answeredInside P ps e ≡ true → belongs P e ≡ true →
+      only (holds P) (apply (entryOutcome ps e) ps) ≡ apply (entryOutcome (only (holds P) ps) e) (only (holds P) ps)
+  part-in ps e h g m = part-apply P (entryOutcome ps e) ps ∙ sym (outcome-part P ps e h g m .same-writes (only (holds P) ps))
+
+  -- An entry outside the part leaves them as they are.
+  pub part-out : (ps : Panel) (e : Entry) → all (pairInside P) ps ≡ true → answeredInside P ps e ≡ true → belongs P e ≡ false →
+      only (holds P) (apply (entryOutcome ps e) ps) ≡ only (holds P) ps
+  part-out ps e h g m = apply-out P (entryOutcome ps e) ps (rw m at (sided P ps e h g))
 
   -- One entry before the list.
   alone-step : (b : List ℕ) (bs : List (List ℕ)) (ws : List Worked) (ps : Panel) → all (pairInside P) ps ≡ true →
@@ -104,16 +119,15 @@ module _ (P : Part) where
     where
       go : (c : Bool) → belongs P (entryOf b) ≡ c → Alone ps (b ∷ bs) (if c then answered ps b ∷ ws else ws)
       go true m =
-          let q = outcome-part P ps (entryOf b) h g m in
-          let r = part-apply P (entryOutcome ps (entryOf b)) ps ∙ sym (q .same-writes (only (holds P) ps)) in
+          let r = part-in ps (entryOf b) h g m in
           record {
             same-answers =
-                ap₂ _∷_ (ap answerBytes (sym (q .same-answer)))
+                ap₂ _∷_ (ap answerBytes (sym (outcome-part P ps (entryOf b) h g m .same-answer)))
                 (ih .same-answers ∙ ap (λ p. map answerBytes (answers p (entriesOf ws))) r);
             same-records = ih .same-records ∙ ap (λ p. after p (entriesOf ws)) r;
           }
       go false m =
-          let r = apply-out P (entryOutcome ps (entryOf b)) ps (rw m at (sided P ps (entryOf b) h g)) in
+          let r = part-out ps (entryOf b) h g m in
           record {
             same-answers = ih .same-answers ∙ ap (λ p. map answerBytes (answers p (entriesOf ws))) r;
             same-records = ih .same-records ∙ ap (λ p. after p (entriesOf ws)) r;
@@ -125,11 +139,11 @@ module _ (P : Part) where
   unfolding panels after answers workedAt
   alone [] ps h g = record { same-answers = refl; same-records = refl }
   alone (b ∷ bs) ps h g =
-      let now = entry-inside ps b (and-left (readInside P (answered ps b)) _ g) in
+      let now = sym (entry-inside ps b) ∙ and-left (readInside P (answered ps b)) _ g in
       let next = apply (entryOutcome ps (entryOf b)) ps in
       let later = and-right (readInside P (answered ps b)) (all (readInside P) (workedAt next bs)) g in
       alone-step b bs _ ps h now
-      (alone bs next (apply-inside _ _ ps (sided P ps (entryOf b) h now) h) later)
+      (alone bs next (inside-after ps (entryOf b) h now) later)
 
   -- ── a list of runs from fresh
 

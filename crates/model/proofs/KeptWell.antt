@@ -58,12 +58,12 @@ unfolding definitions
 empty-taken = refl
 
 module _ (site state : List ℕ) (t : Taken site state) (r : Run) where
-  run-returned : runOn site state r .returned ≡ runReturns r
+  pub run-returned : runOn site state r .returned ≡ runReturns r
   unfolding runOn runJournal runReturned isWorked
   run-returned = rw (taken-state site state t, empty-taken)
 
   -- It leaves such a state.
-  run-taken : Taken site (runOn site state r .state)
+  pub run-taken : Taken site (runOn site state r .state)
   unfolding wellFormed
   run-taken =
       let a = site-accepted site (t .site-accepts) in
@@ -114,10 +114,13 @@ fresh-taken site accept =
       well = rw (panel-fresh site (a .whole-records)) (well-fresh (records site) (records site) (a .in-range));
     }
 
--- A list of runs from fresh.
-from-fresh : (h : History) → WellRun (h .site) (begun h) (h .runs)
+-- A list of runs from fresh starts with such a state.
+pub begun-taken : (h : History) → Taken (h .site) (begun h)
 unfolding freshState
-from-fresh h = list-well (h .site) (h .runs) (begun h) (rw (begun-fresh h) (fresh-taken (h .site) (site-worked (h .site) (h .buffer) (h .accepted))))
+begun-taken h = rw (begun-fresh h) (fresh-taken (h .site) (site-worked (h .site) (h .buffer) (h .accepted)))
+
+pub from-fresh : (h : History) → WellRun (h .site) (begun h) (h .runs)
+from-fresh h = list-well (h .site) (h .runs) (begun h) (begun-taken h)
 
 -- After every list of runs from fresh the state is well formed, and no run of the list returned 6.
 pub well-formed : WellFormed

@@ -19,6 +19,7 @@ pub mod Isolation
 pub mod Well
 pub mod WellStep
 pub mod KeptWell
+pub mod LeftOut
 pub mod Shifts
 pub mod SameShifts
 pub mod ShiftsAccepted

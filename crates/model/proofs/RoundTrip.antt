@@ -53,6 +53,7 @@ credential-back c =
       entered = back 3 (c .entered) i;
       «last_event» = back 1 (c .«last_event») i;
       disable = back 0 (c .disable) i;
+      «wrong_tries» = back 0 (c .«wrong_tries») i;
       «last_point» = pointId (back 3 (c .«last_point» .0) i);
       «last_grant» = back 3 (c .«last_grant») i;
     }

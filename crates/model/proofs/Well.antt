@@ -11,9 +11,9 @@ use Rattle.octets.specs.Octets.{field, digits, same}
 use Rattle.model.specs.Words.{if_then_else_, all, missing, bitOf}
 use Rattle.model.specs.Numbers as n
 use Rattle.model.specs.Numbers.{NONE}
-use Rattle.model.specs.Site.{credentialId, kind, recordKind, disableGiven, instance, reference, pointOf, isAt, findIn}
+use Rattle.model.specs.Site.{credentialId, kind, recordKind, disableGiven, instance, reference, pointOf, credentialOf, isAt, findIn}
 use Rattle.model.specs.Accept.{clear, exists, noneOrExists, inRange, credentialInRange, namesExist}
-use Rattle.model.specs.State.{Pair, Panel, findBy, find, seek, zoneBytes, pointStateOf, pointBytes, credentialStateOf, credentialBytes, freshPoint, freshWith, freshCredential, freshRecordAs, freshRecord, zoneWell, failuresWell, pointWell, credentialWell, recordWellAs, recordWell}
+use Rattle.model.specs.State.{Pair, Panel, findBy, find, seek, zoneBytes, pointStateOf, pointBytes, credentialStateOf, credentialBytes, freshPoint, freshWith, freshCredential, freshRecordAs, freshRecord, zoneWell, belowMost, pointWell, credentialWell, recordWellAs, recordWell}
 use Rattle.model.specs.Checks.{identifying, confirming, factorFor, credentialRead}
 use Rattle.model.proofs.Laws.{if-holds, and-left, and-right, kind-at}
 use Rattle.model.proofs.RoundTrip.{point-back, credential-back}
@@ -25,7 +25,7 @@ use Rattle.model.specs.declared.Entry.{Entry}
 use Rattle.model.specs.declared.RecordKind.{RecordKind}
 use Rattle.model.specs.declared.RecordKind.the-variants.{OfZone, OfPoint, OfRule, OfCredential, OfFactor, OfUnknown}
 
--- ── references and failures
+-- ── references, failures and wrong tries
 
 -- NONE is a reference that a well-formed record may hold.
 pub none-fits : (ss : List (List ℕ)) (k : ℕ) → noneOrExists ss k NONE ≡ true
@@ -41,10 +41,10 @@ exists-fits ss k i h = go (eqb i NONE)
     go true = refl
     go false = h
 
--- No failures are below every most.
-pub no-failures : (most : ℕ) → failuresWell 0 most ≡ true
-unfolding failuresWell
-no-failures most = go (eqb most 0) refl
+-- No failures, and no wrong tries, are below every most.
+pub none-below : (most : ℕ) → belowMost 0 most ≡ true
+unfolding belowMost
+none-below most = go (eqb most 0) refl
   where
     go : (c : Bool) → eqb most 0 ≡ c → (if c then true else ltb 0 most) ≡ true
     go true e = refl
@@ -53,10 +53,10 @@ no-failures most = go (eqb most 0) refl
         lt-ltb 0 most l
 
 -- So is the number that a test chooses, if each is where the test chooses it.
-pub if-fails : (c : Bool) (most a b : ℕ) → (c ≡ true → failuresWell a most ≡ true) → (c ≡ false → failuresWell b most ≡ true) →
-    failuresWell (if c then a else b) most ≡ true
-if-fails true most a b h g = h refl
-if-fails false most a b h g = g refl
+pub if-below : (c : Bool) (most a b : ℕ) → (c ≡ true → belowMost a most ≡ true) → (c ≡ false → belowMost b most ≡ true) →
+    belowMost (if c then a else b) most ≡ true
+if-below true most a b h g = h refl
+if-below false most a b h g = g refl
 
 -- ── what is asked of a state, in a site of the records ss
 
@@ -64,24 +64,25 @@ if-fails false most a b h g = g refl
 pub record PointSound (ss : List (List ℕ)) (most : ℕ) (p : PointState) : Type 0 where
   pub waits : noneOrExists ss n.access-credential (p .«waiting_credential» .0) ≡ true
   pub free : not (p .locked) || eqb (p .«waiting_credential» .0) NONE ≡ true
-  pub fails : failuresWell (p .failures) most ≡ true
+  pub fails : belowMost (p .failures) most ≡ true
 
--- A credential's state.
-pub record CredentialSound (ss : List (List ℕ)) (c : CredentialState) : Type 0 where
+-- A credential's state; `most` is its most wrong tries.
+pub record CredentialSound (ss : List (List ℕ)) (most : ℕ) (c : CredentialState) : Type 0 where
   pub disabled : leb (c .disable) n.largest-disable ≡ true
   pub inside : noneOrExists ss n.access-zone (c .zone .0) ≡ true
   pub seen : noneOrExists ss n.access-point (c .«last_point» .0) ≡ true
+  pub tries : belowMost (c .«wrong_tries») most ≡ true
 
 -- The fresh state of a point is such a state.
 pub fresh-point : (ss : List (List ℕ)) (most : ℕ) → PointSound ss most freshPoint
 unfolding freshPoint noneOrExists
-fresh-point ss most = record { waits = refl; free = refl; fails = no-failures most }
+fresh-point ss most = record { waits = refl; free = refl; fails = none-below most }
 
 -- The fresh state of a credential is, if its disable is in range.
-pub fresh-credential : (ss : List (List ℕ)) (uses days disable : ℕ) → leb disable n.largest-disable ≡ true →
-    CredentialSound ss (freshWith uses days disable)
+pub fresh-credential : (ss : List (List ℕ)) (most uses days disable : ℕ) → leb disable n.largest-disable ≡ true →
+    CredentialSound ss most (freshWith uses days disable)
 unfolding freshWith noneOrExists
-fresh-credential ss uses days disable d = record { disabled = d; inside = refl; seen = refl }
+fresh-credential ss most uses days disable d = record { disabled = d; inside = refl; seen = refl; tries = none-below most }
 
 -- ── the bytes of such a state are a well-formed record
 
@@ -100,7 +101,7 @@ unfolding clear pointBytes digits same
 spare-point p = refl
 
 -- The unnamed bytes of a credential's state are zero.
-spare-credential : (c : CredentialState) → clear 19 1 (credentialBytes c) && clear 28 4 (credentialBytes c) ≡ true
+spare-credential : (c : CredentialState) → clear 28 4 (credentialBytes c) ≡ true
 unfolding clear credentialBytes digits same
 spare-credential c = refl
 
@@ -115,9 +116,9 @@ module _ (ss : List (List ℕ)) (s : List ℕ) where
   unfolding pointWell
   point-bytes-well p h = rw (point-back p, locked-byte p, spare-point p, h .waits, h .free, h .fails)
 
-  credential-bytes-well : (c : CredentialState) → CredentialSound ss c → credentialWell ss (credentialBytes c) ≡ true
+  credential-bytes-well : (c : CredentialState) → CredentialSound ss (credentialOf s .«most_wrong_tries») c → credentialWell ss s (credentialBytes c) ≡ true
   unfolding credentialWell
-  credential-bytes-well c h = rw (credential-back c, h .disabled, spare-credential c, h .inside, h .seen)
+  credential-bytes-well c h = rw (credential-back c, h .disabled, spare-credential c, h .inside, h .seen, h .tries)
 
   -- A sound state of a point is one beside that point.
   pub point-well : (p : PointState) → kind s ≡ n.access-point → PointSound ss (pointOf s .«most_failures») p →
@@ -125,8 +126,8 @@ module _ (ss : List (List ℕ)) (s : List ℕ) where
   unfolding recordWell
   point-well p k h = rw k (point-bytes-well p h)
 
-  -- A sound state of a credential is one beside a credential.
-  pub credential-well : (c : CredentialState) → kind s ≡ n.access-credential → CredentialSound ss c →
+  -- A sound state of a credential is one beside that credential.
+  pub credential-well : (c : CredentialState) → kind s ≡ n.access-credential → CredentialSound ss (credentialOf s .«most_wrong_tries») c →
       recordWell ss (s, credentialBytes c) ≡ true
   unfolding recordWell
   credential-well c k h = rw k (credential-bytes-well c h)
@@ -147,7 +148,7 @@ point-sound ss x k h =
 
 -- A well-formed record beside a credential.
 credential-sound : (ss : List (List ℕ)) (x : Pair) → kind (x .0) ≡ n.access-credential → recordWell ss x ≡ true →
-    CredentialSound ss (credentialStateOf (x .1))
+    CredentialSound ss (credentialOf (x .0) .«most_wrong_tries») (credentialStateOf (x .1))
 unfolding recordWell credentialWell
 credential-sound ss x k h =
     let w = rw k at h in
@@ -155,17 +156,18 @@ credential-sound ss x k h =
       disabled = search (and-left, and-right);
       inside = search (and-left, and-right);
       seen = search (and-left, and-right);
+      tries = search (and-left, and-right);
     }
 
 -- The empty part, where no record was found, reads as a sound state of a point.
 no-point : (ss : List (List ℕ)) → PointSound ss (pointOf [] .«most_failures») (pointStateOf [])
-unfolding pointOf pointStateOf field reference noneOrExists failuresWell
+unfolding pointOf pointStateOf field reference noneOrExists belowMost
 no-point ss = record { waits = refl; free = refl; fails = refl }
 
 -- It reads as a sound state of a credential.
-no-credential : (ss : List (List ℕ)) → CredentialSound ss (credentialStateOf [])
-unfolding credentialStateOf field reference noneOrExists
-no-credential ss = record { disabled = refl; inside = refl; seen = refl }
+no-credential : (ss : List (List ℕ)) → CredentialSound ss (credentialOf [] .«most_wrong_tries») (credentialStateOf [])
+unfolding credentialOf credentialStateOf field reference noneOrExists belowMost
+no-credential ss = record { disabled = refl; inside = refl; seen = refl; tries = refl }
 
 -- ── what is found
 
@@ -201,18 +203,22 @@ module _ (ss : List (List ℕ)) (ps : Panel) (well : all (recordWell ss) ps ≡ 
       (isAt n.access-point i) (no-point ss) (λ x a w. point-sound ss x (kind-at n.access-point i (x .0) a) w) ps well
 
   -- The state of the credential that a number names.
-  pub credential-found : (i : ℕ) → CredentialSound ss (credentialStateOf (find n.access-credential i ps .1))
+  pub credential-found : (i : ℕ) →
+      CredentialSound ss (credentialOf (find n.access-credential i ps .0) .«most_wrong_tries») (credentialStateOf (find n.access-credential i ps .1))
   unfolding find
   credential-found i =
-      found-has (λ x. CredentialSound ss (credentialStateOf (x .1))) (recordWell ss) (isAt n.access-credential i)
-      (no-credential ss) (λ x a w. credential-sound ss x (kind-at n.access-credential i (x .0) a) w) ps well
+      found-has (λ x. CredentialSound ss (credentialOf (x .0) .«most_wrong_tries») (credentialStateOf (x .1))) (recordWell ss)
+      (isAt n.access-credential i) (no-credential ss) (λ x a w. credential-sound ss x (kind-at n.access-credential i (x .0) a) w) ps well
 
   -- The state of the credential that a reference names.
-  pub credential-sought : (i : ℕ) → CredentialSound ss (credentialStateOf (seek n.access-credential i ps .1))
+  pub credential-sought : (i : ℕ) →
+      CredentialSound ss (credentialOf (seek n.access-credential i ps .0) .«most_wrong_tries») (credentialStateOf (seek n.access-credential i ps .1))
   unfolding seek
   credential-sought i = go (eqb i NONE)
     where
-      go : (c : Bool) → CredentialSound ss (credentialStateOf ((if c then ([], []) else find n.access-credential i ps) .1))
+      go : (c : Bool) →
+          let x = if c then ([], []) else find n.access-credential i ps in
+          CredentialSound ss (credentialOf (x .0) .«most_wrong_tries») (credentialStateOf (x .1))
       go true = no-credential ss
       go false = credential-found i
 
@@ -282,7 +288,7 @@ fresh-record ss s r = go (recordKind s) refl
     go OfZone k = refl
     go OfPoint k = point-bytes-well ss s freshPoint (fresh-point ss _)
     go OfRule k = refl
-    go OfCredential k = credential-bytes-well ss s (freshCredential s) (fresh-credential ss _ _ _ (disable-fits k))
+    go OfCredential k = credential-bytes-well ss s (freshCredential s) (fresh-credential ss _ _ _ _ (disable-fits k))
     go OfFactor k = refl
     go OfUnknown k = refl
 

@@ -2,21 +2,21 @@
 use Prim.Native.Nat.{ℕ}
 use mathlib.Core.Path.{_≡_, refl, _∙_, ap}
 use mathlib.Core.List.{List, [], _∷_}
-use mathlib.Core.Bool.{Bool, true, false, not, _&&_, _||_}
+use mathlib.Core.Bool.{Bool, true, false, not, _&&_, _||_, true≢false}
 use lib.Dec.{ltb, leb, eqb}
 use borrow.Author.Tests.{eqb-true, not-true, leb-false, lt-ltb}
 use Rattle.model.specs.Words.{if_then_else_, all, missing}
 use Rattle.model.specs.Numbers as n
 use Rattle.model.specs.Numbers.{NONE}
-use Rattle.model.specs.Site.{zoneId, credentialId, pointOf, isAt, findIn}
+use Rattle.model.specs.Site.{zoneId, credentialId, pointOf, credentialOf, isAt, findIn}
 use Rattle.model.specs.Accept.{exists, noneOrExists, namesExist}
-use Rattle.model.specs.State.{Pair, Panel, sites, find, store, write, zoneBytes, pointStateOf, pointBytes, credentialStateOf, credentialBytes, failuresWell, recordWell}
+use Rattle.model.specs.State.{Pair, Panel, sites, find, seek, store, write, zoneBytes, pointStateOf, pointBytes, credentialStateOf, credentialBytes, belowMost, recordWell}
 use Rattle.model.specs.Entry.{operationOf, objectKind, inForm}
-use Rattle.model.specs.Checks.{relinquished, stillLocked, authenticationOf, intoZone, eventOf}
-use Rattle.model.specs.Effects.{isFailure, failuresBefore, failuresWith, locksOut, pointAfter, zoneAfter, credentialAfter, outcomeWith, outcomeOf}
+use Rattle.model.specs.Checks.{relinquished, stillLocked, waiting, authenticationOf, intoZone, eventOf}
+use Rattle.model.specs.Effects.{named, isFailure, failuresBefore, failuresWith, locksOut, pointAfter, isWrongTry, wrongTriesWith, reachesMost, wrongTriesAfter, disableReached, zoneAfter, credentialAfter, outcomeWith, outcomeOf}
 use Rattle.model.specs.Step.{noPoint, noCredential, unchanged, refuse, factorRead, numberRead, credentialAt, situationOf, rulesAt, factorOutcome, countOutcome, adjusted, adjustOutcome, disableAfter, disableOutcome, locks, serviceAfter, serviceOutcome, workedOutcome, outcomeAs, entryOutcome, apply, after}
 use Rattle.model.proofs.Laws.{if-holds, and-left, and-right, or-right, kind-at, find-in, all-write, sites-write, sites-apply}
-use Rattle.model.proofs.Well.{none-fits, exists-fits, no-failures, if-fails, PointSound, CredentialSound, fresh-point, fresh-credential, zone-well, point-well, credential-well, point-found, credential-found, credential-sought, to-fits, number-fits}
+use Rattle.model.proofs.Well.{none-fits, exists-fits, none-below, if-below, PointSound, CredentialSound, fresh-point, fresh-credential, zone-well, point-well, credential-well, point-found, credential-found, credential-sought, to-fits, number-fits}
 use Rattle.model.specs.declared.ZoneId.{ZoneId}
 use Rattle.model.specs.declared.CredentialId.{CredentialId}
 use Rattle.model.specs.declared.PointState.{PointState}
@@ -35,7 +35,7 @@ record Seen (ss : List (List ℕ)) (v : Situation) : Type 0 where
   point : PointSound ss (v .point .«most_failures») (v .«point_state»)
   to : noneOrExists ss n.access-zone (v .point .«zone_to» .0) ≡ true
   number : noneOrExists ss n.access-credential (v .number .0) ≡ true
-  credential : CredentialSound ss (v .«credential_state»)
+  credential : CredentialSound ss (v .credential .«most_wrong_tries») (v .«credential_state»)
 
 -- A point that is still locked answers 161.
 locked-event : (v : Situation) (rules : Verdict) (e : Entry) → stillLocked v e ≡ true → eventOf v rules e ≡ n.denied-lockout
@@ -44,9 +44,7 @@ locked-event v rules e h = rw h
 
 -- The events that are failures where a most is set.
 failing : ℕ → Bool
-failing x =
-    eqb x n.denied-unknown-credential || eqb x n.denied-authentication-factor-timeout
-    || eqb x n.denied-incorrect-authentication-factor || eqb x n.denied-authentication-factor-error
+failing x = eqb x n.denied-unknown-credential || eqb x n.denied-authentication-factor-error
 
 -- An event that is a failure is not one that is none.
 not-failing : (k x : ℕ) → failing k ≡ false → failing x ≡ true → eqb x k ≡ false
@@ -81,25 +79,25 @@ module _ (ss : List (List ℕ)) (v : Situation) (e : Entry) (x : ℕ) (h : Seen 
       go false false o s = refl
 
   -- The failures so far are below the most.
-  fails-before : failuresWell (failuresBefore v e) most ≡ true
+  fails-before : belowMost (failuresBefore v e) most ≡ true
   unfolding failuresBefore most
   fails-before =
-      if-fails (relinquished v e) most 0 (v .«point_state» .failures) (λ r. no-failures most) (λ r. h .point .fails)
+      if-below (relinquished v e) most 0 (v .«point_state» .failures) (λ r. none-below most) (λ r. h .point .fails)
 
   -- A failure that does not lock the point leaves its failures below the most.
-  fails-with : locksOut v e x ≡ false → isFailure v x ≡ true → failuresWell (failuresWith v e) most ≡ true
-  unfolding locksOut isFailure failuresWell most
+  fails-with : locksOut v e x ≡ false → isFailure v x ≡ true → belowMost (failuresWith v e) most ≡ true
+  unfolding locksOut isFailure belowMost most
   fails-with o f =
       let m : eqb most 0 ≡ false = not-true (eqb most 0) (search and-left) in
       let b : leb most (failuresWith v e) ≡ false = rw f at o in
       rw m (lt-ltb (failuresWith v e) most (leb-false most (failuresWith v e) b))
 
   -- The failures afterwards are below the most.
-  fails-after : failuresWell (pointAfter v e x .failures) most ≡ true
+  fails-after : belowMost (pointAfter v e x .failures) most ≡ true
   unfolding pointAfter
   fails-after =
-      if-fails (eqb x n.granted || locksOut v e x) most 0 _ (λ g. no-failures most)
-      (λ g. if-fails (isFailure v x) most (failuresWith v e) (failuresBefore v e)
+      if-below (eqb x n.granted || locksOut v e x) most 0 _ (λ g. none-below most)
+      (λ g. if-below (isFailure v x) most (failuresWith v e) (failuresBefore v e)
       (fails-with (or-right (eqb x n.granted) (locksOut v e x) g)) (λ f. fails-before))
 
   -- The point's state afterwards is sound.
@@ -115,18 +113,33 @@ module _ (ss : List (List ℕ)) (v : Situation) (e : Entry) (x : ℕ) (h : Seen 
         fails = fails-after;
       }
 
+  -- A wrong try that does not reach the most leaves the wrong tries below it.
+  tries-with : reachesMost v x ≡ false → isWrongTry v x ≡ true → belowMost (wrongTriesWith v) (v .credential .«most_wrong_tries») ≡ true
+  unfolding reachesMost isWrongTry belowMost
+  tries-with o f =
+      let m : eqb (v .credential .«most_wrong_tries») 0 ≡ false = not-true (eqb (v .credential .«most_wrong_tries») 0) (search and-left) in
+      let b : leb (v .credential .«most_wrong_tries») (wrongTriesWith v) ≡ false = rw f at o in
+      rw m (lt-ltb (wrongTriesWith v) (v .credential .«most_wrong_tries») (leb-false (v .credential .«most_wrong_tries») (wrongTriesWith v) b))
+
   -- The credential's state afterwards is sound.
-  credential-after : noneOrExists ss n.access-point (e .instance) ≡ true → CredentialSound ss (credentialAfter v e x)
-  unfolding credentialAfter zoneAfter
+  credential-after : noneOrExists ss n.access-point (e .instance) ≡ true →
+      CredentialSound ss (v .credential .«most_wrong_tries») (credentialAfter v e x)
+  unfolding credentialAfter zoneAfter disableReached wrongTriesAfter
   credential-after p =
       record {
-        disabled = h .credential .disabled;
+        disabled =
+            if-holds (λ d. leb d n.largest-disable ≡ true) (reachesMost v x) n.disable-lockout (v .«credential_state» .disable) refl
+            (h .credential .disabled);
         inside =
             if-holds zone-fits (not (eqb x n.granted)) (v .«credential_state» .zone) _ (h .credential .inside)
             (if-holds zone-fits (intoZone v) (v .point .«zone_to») _ (h .to)
             (if-holds zone-fits (not (eqb (v .point .«zone_from» .0) NONE)) (zoneId NONE) (v .«credential_state» .zone)
             (none-fits ss n.access-zone) (h .credential .inside)));
         seen = p;
+        tries =
+            if-below (eqb x n.granted || reachesMost v x) (v .credential .«most_wrong_tries») 0 _ (λ g. none-below (v .credential .«most_wrong_tries»))
+            (λ g. if-below (isWrongTry v x) (v .credential .«most_wrong_tries») (wrongTriesWith v) (v .«credential_state» .«wrong_tries»)
+            (tries-with (or-right (eqb x n.granted) (reachesMost v x) g)) (λ f. h .credential .tries));
       }
     where
       zone-fits : ZoneId → Type 0
@@ -134,25 +147,29 @@ module _ (ss : List (List ℕ)) (v : Situation) (e : Entry) (x : ℕ) (h : Seen 
 
 -- ── outcomes that leave sound states
 
--- The point's state is sound for the most failures of the point that the outcome names.
+-- The most wrong tries of the credential that an outcome names.
+mostNamed : List (List ℕ) → Outcome → ℕ
+mostNamed ss o = credentialOf (findIn (isAt n.access-credential (o .credential .instance .0)) ss) .«most_wrong_tries»
+
+-- The point's state is sound for the most failures of the point that the outcome names, the credential's for its most wrong tries, unless it is NONE.
 record Sound (ss : List (List ℕ)) (o : Outcome) : Type 0 where
   point : PointSound ss (pointOf (findIn (isAt n.access-point (o .point .instance .0)) ss) .«most_failures») (o .point .state)
-  credential : CredentialSound ss (o .credential .state)
+  credential : eqb (o .credential .instance .0) NONE ≡ false → CredentialSound ss (mostNamed ss o) (o .credential .state)
 
 -- The credential's state that stands where none is written.
-unwritten : (ss : List (List ℕ)) → CredentialSound ss (noCredential .state)
+unwritten : (ss : List (List ℕ)) (most : ℕ) → CredentialSound ss most (noCredential .state)
 unfolding noCredential
-unwritten ss = fresh-credential ss 0 0 0 refl
+unwritten ss most = fresh-credential ss most 0 0 0 refl
 
 -- An outcome that writes nothing.
 sound-unchanged : (ss : List (List ℕ)) (a : Answer) → Sound ss (unchanged a)
 unfolding unchanged noPoint
-sound-unchanged ss a = record { point = fresh-point ss _; credential = unwritten ss }
+sound-unchanged ss a = record { point = fresh-point ss _; credential = λ i. unwritten ss _ }
 
 -- An outcome that writes a count.
 sound-count : (ss : List (List ℕ)) (e : Entry) (counted : ℕ) → Sound ss (countOutcome e counted)
 unfolding countOutcome noPoint
-sound-count ss e counted = record { point = fresh-point ss _; credential = unwritten ss }
+sound-count ss e counted = record { point = fresh-point ss _; credential = λ i. unwritten ss _ }
 
 -- An adjustment of a count.
 sound-adjust : (ss : List (List ℕ)) (e : Entry) (counted : ℕ) → Sound ss (adjustOutcome e counted)
@@ -164,10 +181,20 @@ sound-adjust ss e counted =
 -- The outcome of a factor read at a point that exists.
 sound-outcome : (ss : List (List ℕ)) (v : Situation) (e : Entry) (x : ℕ) → Seen ss v →
     (stillLocked v e ≡ true → x ≡ n.denied-lockout) → v .point ≡ pointOf (findIn (isAt n.access-point (e .instance)) ss) →
+    (eqb (v .number .0) NONE ≡ false → v .credential ≡ credentialOf (findIn (isAt n.access-credential (v .number .0)) ss)) →
     noneOrExists ss n.access-point (e .instance) ≡ true → Sound ss (outcomeOf v e x)
-unfolding outcomeOf outcomeWith
-sound-outcome ss v e x h l p i =
-    record { point = rw (← p) (point-after ss v e x h l); credential = credential-after ss v e x h i }
+unfolding outcomeOf outcomeWith mostNamed named
+sound-outcome ss v e x h l p c i =
+    record {
+      point = rw (← p) (point-after ss v e x h l);
+      credential = go (not (waiting v) && (eqb x n.denied-lockout || eqb x n.denied-authentication-factor-error));
+    }
+  where
+    go : (b : Bool) → eqb ((if b then credentialId NONE else v .number) .0) NONE ≡ false →
+        CredentialSound ss (credentialOf (findIn (isAt n.access-credential ((if b then credentialId NONE else v .number) .0)) ss) .«most_wrong_tries»)
+        (credentialAfter v e x)
+    go true d = absurd (true≢false d)
+    go false d = rw (← c d) (credential-after ss v e x h i)
 
 -- A point that operation 5 locks or unlocks has a sound state afterwards.
 service-after : (ss : List (List ℕ)) (most : ℕ) (e : Entry) (p : PointState) → PointSound ss most p →
@@ -178,7 +205,7 @@ service-after ss most e p h =
       waits =
           if-holds (λ (c : CredentialId). noneOrExists ss n.access-credential (c .0) ≡ true) (locks e) (credentialId NONE) (p .«waiting_credential») (none-fits ss n.access-credential) (h .waits);
       free = go (locks e);
-      fails = if-fails (locks e) most (p .failures) 0 (λ l. h .fails) (λ l. no-failures most);
+      fails = if-below (locks e) most (p .failures) 0 (λ l. h .fails) (λ l. none-below most);
     }
   where
     go : (c : Bool) → not c || eqb ((if c then credentialId NONE else p .«waiting_credential») .0) NONE ≡ true
@@ -206,7 +233,7 @@ module _ (ss : List (List ℕ)) (ps : Panel) (of-site : sites ps ≡ ss) (well :
       let c = credential-found ss ps well (e .instance) in
       record {
         point = fresh-point ss _;
-        credential = record { disabled = search and-left; inside = c .inside; seen = c .seen };
+        credential = λ i. record { disabled = search and-left; inside = c .inside; seen = c .seen; tries = none-below _ };
       }
 
   -- Operation 5.
@@ -216,7 +243,7 @@ module _ (ss : List (List ℕ)) (ps : Panel) (of-site : sites ps ≡ ss) (well :
       record {
         point =
             rw (← found-site n.access-point (e .instance)) (service-after ss _ e _ (point-found ss ps well (e .instance)));
-        credential = unwritten ss;
+        credential = λ i. unwritten ss _;
       }
 
   module _ (names : all (namesExist ss) ss ≡ true) where
@@ -231,6 +258,12 @@ module _ (ss : List (List ℕ)) (ps : Panel) (of-site : sites ps ≡ ss) (well :
           credential = credential-sought ss ps well _;
         }
 
+    -- The credential of a factor read is that of its number.
+    read-credential : let v = situationOf ps e (find n.access-point (e .instance) ps) in
+        eqb (v .number .0) NONE ≡ false → v .credential ≡ credentialOf (findIn (isAt n.access-credential (v .number .0)) ss)
+    unfolding situationOf credentialAt seek
+    read-credential d = rw (d, found-site n.access-credential _)
+
     -- Operation 1.
     sound-factor : missing (find n.access-point (e .instance) ps .0) ≡ false →
         Sound ss (factorOutcome ps e (find n.access-point (e .instance) ps))
@@ -240,7 +273,7 @@ module _ (ss : List (List ℕ)) (ps : Panel) (of-site : sites ps ≡ ss) (well :
         let v = situationOf ps e p in
         if-holds (Sound ss) (pointOf (p .0) .«out_of_service») (unchanged _) (outcomeOf v e _) (sound-unchanged ss _)
         (sound-outcome ss v e _ situation-seen (locked-event v (rulesAt ps e p) e)
-        (ap pointOf (found-site n.access-point (e .instance))) (found-fits n.access-point (e .instance) g))
+        (ap pointOf (found-site n.access-point (e .instance))) read-credential (found-fits n.access-point (e .instance) g))
 
     -- Every operation, at an object that is found.
     sound-worked : (o : Operation) → inForm o e ≡ true → missing (find (objectKind o) (e .instance) ps .0) ≡ false →
@@ -293,26 +326,26 @@ module _ (t : Pair → Bool) (k i : ℕ) (b : List ℕ) where
       go true e h ih = rw (h e, and-right (t x) (all t xs) a)
       go false e h ih = rw (and-left (t x) (all t xs) a, ih h)
 
-  -- So does a write under a flag.
-  all-write-found : (on : Bool) (ps : Panel) → Passes (sites ps) → all t ps ≡ true → all t (write on k i b ps) ≡ true
+  -- So does a write under a flag, of NONE or of such bytes.
+  all-write-found : (on : Bool) (ps : Panel) → (eqb i NONE ≡ false → Passes (sites ps)) → all t ps ≡ true → all t (write on k i b ps) ≡ true
   unfolding write
-  all-write-found on ps h a = go (on && not (eqb i NONE))
+  all-write-found on ps h a = go (on && not (eqb i NONE)) refl
     where
-      go : (c : Bool) → all t (if c then store k i b ps else ps) ≡ true
-      go true = all-store-found ps h a
-      go false = a
+      go : (c : Bool) → on && not (eqb i NONE) ≡ c → all t (if c then store k i b ps else ps) ≡ true
+      go true w = all-store-found ps (h (not-true (eqb i NONE) (and-right on (not (eqb i NONE)) w))) a
+      go false w = a
 
 -- An outcome that leaves sound states leaves well-formed records.
 apply-well : (ss : List (List ℕ)) (o : Outcome) (ps : Panel) → sites ps ≡ ss → Sound ss o → all (recordWell ss) ps ≡ true →
     all (recordWell ss) (apply o ps) ≡ true
-unfolding apply Passes
+unfolding apply Passes mostNamed
 apply-well ss o ps of-site h a =
     all-write-found (recordWell ss) n.access-point (o .point .instance .0) (pointBytes (o .point .state)) (o .point .written) _
     (simp (sites-write, of-site)
-    (λ p. point-well ss _ (o .point .state) (kind-at n.access-point (o .point .instance .0) _ p) (h .point)))
-    (all-write (recordWell ss) (o .credential .written) n.access-credential (o .credential .instance .0)
-    (credentialBytes (o .credential .state)) _
-    (λ x p w. credential-well ss (x .0) (o .credential .state) (kind-at n.access-credential (o .credential .instance .0) (x .0) p) (h .credential))
+    (λ d p. point-well ss _ (o .point .state) (kind-at n.access-point (o .point .instance .0) _ p) (h .point)))
+    (all-write-found (recordWell ss) n.access-credential (o .credential .instance .0) (credentialBytes (o .credential .state)) (o .credential .written) _
+    (simp (sites-write, of-site)
+    (λ d p. credential-well ss _ (o .credential .state) (kind-at n.access-credential (o .credential .instance .0) _ p) (h .credential d)))
     (all-write (recordWell ss) (o .«zone_to» .written) n.access-zone (o .«zone_to» .instance .0) (zoneBytes (o .«zone_to» .count)) _
     (λ x p w. zone-well ss (x .0) (o .«zone_to» .count) (kind-at n.access-zone (o .«zone_to» .instance .0) (x .0) p))
     (all-write (recordWell ss) (o .«zone_from» .written) n.access-zone (o .«zone_from» .instance .0) (zoneBytes (o .«zone_from» .count)) ps

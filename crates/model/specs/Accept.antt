@@ -55,7 +55,7 @@ ruleInRange s =
 unfoldable pub credentialInRange : List ℕ → Bool
 credentialInRange s =
     ltb (flags s) 32 && leb (disableGiven s) largest-disable && leb (credentialOf s .«threat_authority») largest-threat
-    && clear 22 2 s && realOrNone (credentialOf s .«first_rights» .0) && realOrNone (credentialOf s .«second_rights» .0)
+    && clear 23 1 s && realOrNone (credentialOf s .«first_rights» .0) && realOrNone (credentialOf s .«second_rights» .0)
 
 -- A factor: no flag; role 1 or 2; disable 0 to 5; format 2..255.
 unfoldable pub factorInRange : List ℕ → Bool

@@ -3,9 +3,9 @@
 -- others about every site, state and run.
 use Prim.Native.Nat.{ℕ, suc, _+_, _/_, _<_}
 use mathlib.Core.Path.{_≡_}
-use mathlib.Core.List.{List, [], map}
+use mathlib.Core.List.{List, [], _∷_, _++_, map}
 use mathlib.Core.Bool.{Bool, true, false, not, _&&_, _||_}
-use lib.Dec.{eqb}
+use lib.Dec.{ltb, eqb}
 use lib.IntN.{pos}
 use lib.ListN.{length, getD}
 use Rattle.model.specs.Words.{all}
@@ -17,12 +17,13 @@ use Rattle.model.specs.Entry.{entryOf, entries, operationOf, answerBytes
 use Rattle.model.specs.Checks.{timeFits}
 use Rattle.model.specs.Step.{noAnswer}
 use Rattle.model.specs.Calls.{number, isWorked, checkSite, freshState}
-use Rattle.model.specs.Lists.{Run, runOn, stateAfter, returns, Worked, answersIn, workedIn, eventIn, refusalIn, credentialIn, History, begun, ended, firstOf}
+use Rattle.model.specs.Lists.{Run, runOn, stateAfter, returns, Worked, answersIn, workedIn, eventIn, refusalIn, credentialIn, History, begun, ended, worked, firstOf}
 use Rattle.model.specs.Tally.{standing, tallyOf, countOf}
-use Rattle.model.specs.Part.{Part, SelfContained, partRecords, partEntries, partAnswers, partState}
+use Rattle.model.specs.Part.{Part, SelfContained, partRecords, partEntries, partAnswers, partState, othersLeftOut}
 use Rattle.model.specs.Earned.{Earned}
 use Rattle.model.specs.Shifts.{isShift, untilMidnight, sinceMidnight, Halved, Rewritten}
-use Rattle.model.specs.DayPasses.{timesGranted, datesGranted, daysInSite, stateLeft, lastOf, daysTaken, neverFall, different}
+use Rattle.model.specs.DayPasses.{isGrantOf, timesGranted, datesGranted, daysInSite, stateLeft, lastOf, daysTaken, neverFall, different}
+use Rattle.model.specs.WrongTries.{triedOf, mostTries, triesIn, triesSince}
 use Rattle.model.specs.declared.Returned.{Returned}
 use Rattle.model.specs.declared.Returned.the-variants.{WorkedThrough, SiteLength, StateForm}
 use Rattle.model.specs.declared.Operation.the-variants.{Factor}
@@ -37,6 +38,16 @@ unfoldable pub Isolation : Type 0
 Isolation =
     (P : Part) (g h : History) → SelfContained P g → SelfContained P h → partRecords P g ≡ partRecords P h →
     partEntries P g ≡ partEntries P h → (partAnswers P g ≡ partAnswers P h) × (partState P g ≡ partState P h)
+
+-- Document 02, job 4: "Under demand 3's premises, cards in another part stay untouched." The list with every entry outside the part left out has the
+-- part's entries and no other; they get the same answers, and the part's records the same state. Each run returns what it did.
+unfoldable pub OthersLeftOut : Type 0
+OthersLeftOut =
+    (P : Part) (h : History) → SelfContained P h →
+    (map (λ (w : Worked). w .entry) (worked (othersLeftOut P h)) ≡ partEntries P h)
+    × (map (λ (w : Worked). w .answer) (worked (othersLeftOut P h)) ≡ partAnswers P h)
+    × (partState P (othersLeftOut P h) ≡ partState P h)
+    × (returns (h .site) (begun h) (othersLeftOut P h .runs) ≡ returns (h .site) (begun h) (h .runs))
 
 -- A call returns another number than that of x.
 abbrev pub returnsOther : Returned → Returned → Bool
@@ -124,3 +135,18 @@ unfoldable pub DaysOfAdmission : Type 0
 DaysOfAdmission =
     (h : History) (c : ℕ) → exists (records (h .site)) n.access-credential c ≡ true → daysInSite c h < n.UNLIMITED →
     neverFall (datesGranted c h) ≡ true → stateLeft c h .days + different (datesGranted c h) ≡ daysInSite c h
+
+-- Wrong codes (document 02, job 4), after every list from fresh, whatever the clock does: a credential's wrong tries and its disable are those that the
+-- entries and their answers show.
+unfoldable pub WrongTries : Type 0
+WrongTries =
+    (h : History) (c : ℕ) → exists (records (h .site)) n.access-credential c ≡ true →
+    (stateLeft c h .«wrong_tries» ≡ triedOf c h .tries) × (stateLeft c h .disable ≡ triedOf c h .disable)
+
+-- A grant is earned, over every list of runs on any state: whenever a credential is granted, it has not reached its most since its wrong tries were last
+-- zeroed by a grant or operation 4.
+unfoldable pub GrantBelowMost : Type 0
+GrantBelowMost =
+    (site state : List ℕ) (rs : List Run) (c : ℕ) (before later : List Worked) (w : Worked) →
+    workedIn site state rs ≡ before ++ w ∷ later → isGrantOf c w ≡ true →
+    eqb (mostTries c site) 0 || ltb (triesSince c (triesIn c site state) before) (mostTries c site) ≡ true

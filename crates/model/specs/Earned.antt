@@ -8,7 +8,7 @@ use Rattle.octets.specs.Octets.{same}
 use Rattle.model.specs.Words.{if_then_else_, any}
 use Rattle.model.specs.Numbers as n
 use Rattle.model.specs.Site.{pointId, credentialId, instance, enabled, negative, factorDisable}
-use Rattle.model.specs.State.{Panel, sites, find}
+use Rattle.model.specs.State.{Panel, sites, find, belowMost}
 use Rattle.model.specs.Checks.{stillLocked, waiting, overdue, identifying, confirming, inactive, ofRights, enabledRule, locationFits, timeFits, passbackViolated, atLowerLimit, atUpperLimit}
 use Rattle.model.specs.Step.{factorRead, situationOf}
 use Rattle.model.specs.declared.CredentialId.{CredentialId}
@@ -67,6 +67,8 @@ pub record EarnedAt (v : Situation) (ss : List (List ℕ)) (f : List ℕ) (e : E
   pub credential-enabled : v .«credential_state» .disable ≡ 0
   pub days-left : 0 < v .«credential_state» .days
   pub uses-left : 0 < v .«credential_state» .uses
+  -- Document 02, job 4: its wrong tries are below its most, where one is set.
+  pub tries-left : belowMost (v .«credential_state» .«wrong_tries») (v .credential .«most_wrong_tries») ≡ true
   pub not-absent : inactive (v .«credential_state» .«last_use») (v .credential .«absentee_days») (e .time) ≡ false
   -- Unless it is master-exempt, it is authorized.
   pub authorized : v .credential .master ≡ false → Authorized v ss e

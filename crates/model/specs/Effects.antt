@@ -27,14 +27,13 @@ named v x =
     if not (waiting v) && (eqb x n.denied-lockout || eqb x n.denied-authentication-factor-error) then credentialId NONE
     else v .number
 
--- ── "Failures are 129, 131, 132, 148, where a most is set"
+-- ── "Failures are 129, 131, 132, 148, where a most is set". Document 02, job 4: "Failures 131 and 132 shall be counted for each credential, not on the
+-- point; 129 and 148 stay on the point."
 
--- "Failures are 129, 131, 132, 148, where a most is set".
+-- "129 and 148 stay on the point", "where a most is set".
 unfoldable pub isFailure : Situation → ℕ → Bool
 isFailure v x =
-    not (eqb (v .point .«most_failures») 0)
-    && (eqb x n.denied-unknown-credential || eqb x n.denied-authentication-factor-timeout
-    || eqb x n.denied-incorrect-authentication-factor || eqb x n.denied-authentication-factor-error)
+    not (eqb (v .point .«most_failures») 0) && (eqb x n.denied-unknown-credential || eqb x n.denied-authentication-factor-error)
 
 -- Failures so far: step 1 zeroes them where it relinquishes the lock.
 unfoldable pub failuresBefore : Situation → Entry → ℕ
@@ -72,6 +71,32 @@ pointAfter v e x =
           if eqb x n.denied-lockout then v .«point_state» .«waiting_credential» else credentialId NONE;
       «waiting_since» = if eqb x n.no-event then e .time else v .«point_state» .«waiting_since»;
     }
+
+-- ── wrong tries (document 02, job 4)
+
+-- "Failures 131 and 132 shall be counted for each credential", the one waited for. "Credential offset 22 (1 byte, 0 unset) is the most wrong tries".
+unfoldable pub isWrongTry : Situation → ℕ → Bool
+isWrongTry v x =
+    not (eqb (v .credential .«most_wrong_tries») 0)
+    && (eqb x n.denied-authentication-factor-timeout || eqb x n.denied-incorrect-authentication-factor)
+
+-- The wrong tries with this one: "without a window", each adds 1.
+unfoldable pub wrongTriesWith : Situation → ℕ
+wrongTriesWith v = v .«credential_state» .«wrong_tries» + 1
+
+-- "Reaching the most".
+unfoldable pub reachesMost : Situation → ℕ → Bool
+reachesMost v x = isWrongTry v x && leb (v .credential .«most_wrong_tries») (wrongTriesWith v)
+
+-- "Reaching the most .. zeroes the count .. a grant .. also zeroes it."
+unfoldable pub wrongTriesAfter : Situation → ℕ → ℕ
+wrongTriesAfter v x =
+    if eqb x n.granted || reachesMost v x then 0 else
+    if isWrongTry v x then wrongTriesWith v else v .«credential_state» .«wrong_tries»
+
+-- "Reaching the most sets the disable to LOCKOUT".
+unfoldable pub disableReached : Situation → ℕ → ℕ
+disableReached v x = if reachesMost v x then n.disable-lockout else v .«credential_state» .disable
 
 -- ── "Grant"
 
@@ -122,7 +147,8 @@ credentialAfter v e x =
       zone = zoneAfter v x;
       entered = if eqb x n.granted && intoZone v then e .time else v .«credential_state» .entered;
       «last_event» = x;
-      disable = v .«credential_state» .disable;
+      disable = disableReached v x;
+      «wrong_tries» = wrongTriesAfter v x;
       «last_point» = pointId (e .instance);
       «last_grant» = if eqb x n.granted then e .time else v .«credential_state» .«last_grant»;
     }
@@ -147,7 +173,7 @@ credentialMarks v e x c =
     + mark (eqb x n.granted && v .point .muster) n.mark-muster
     + mark (eqb x n.granted && v .credential .«extended_time») n.mark-extended-unlock
 
--- "mark 1 stands on all but 161"; marks 16 and 64 are the point's.
+-- "mark 1 stands on all but 161"; marks 16 and 64 are the point's: a credential reaches its most "without mark 16".
 unfoldable pub marks : Situation → Entry → ℕ → ℕ
 marks v e x =
     mark (not (eqb x n.denied-lockout)) n.mark-factor-read

@@ -15,4 +15,5 @@ pub mod Part
 pub mod Earned
 pub mod Shifts
 pub mod DayPasses
+pub mod WrongTries
 pub mod Demands

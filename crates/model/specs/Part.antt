@@ -1,18 +1,20 @@
 -- "The self-contained part (demand 3)".
-use Prim.Native.Nat.{ℕ}
+use Prim.Native.Nat.{ℕ, _*_, _/_}
 use mathlib.Core.Path.{_≡_}
-use mathlib.Core.List.{List, map}
+use mathlib.Core.List.{List, [], _∷_, map, flatten}
 use mathlib.Core.Bool.{Bool, true, false, not, _&&_, _||_, Bool·beq}
 use lib.Dec.{eqb}
+use lib.ListN.{length, take}
 use Rattle.model.specs.Words.{if_then_else_, keep, all, missing}
 use Rattle.model.specs.Numbers as n
 use Rattle.model.specs.Numbers.{NONE}
 use Rattle.model.specs.Site.{zoneId, pointId, credentialId, rightsId, records, kind, recordKind, instance, pointOf, credentialOf, findIn}
 use Rattle.model.specs.State.{Pair, Panel, panel, sites, find}
-use Rattle.model.specs.Entry.{entryOf, operationOf, objectKind}
+use Rattle.model.specs.Entry.{entryOf, entries, operationOf, objectKind}
 use Rattle.model.specs.Checks.{stillLocked, waiting, identifying}
 use Rattle.model.specs.Step.{situationOf}
-use Rattle.model.specs.Lists.{Worked, refusalIn, History, ended, worked}
+use Rattle.model.specs.Calls.{isWorked}
+use Rattle.model.specs.Lists.{Run, runOn, Worked, refusalIn, History, begun, ended, worked}
 use Rattle.model.specs.declared.RecordKind.{RecordKind}
 use Rattle.model.specs.declared.RecordKind.the-variants.{OfZone, OfPoint, OfRule, OfCredential, OfFactor, OfUnknown}
 use Rattle.model.specs.declared.ZoneId.{ZoneId}
@@ -139,3 +141,28 @@ partAnswers P h = map (λ (w : Worked). w .answer) (partWorked P h)
 -- "the state records of its records, in file order".
 unfoldable pub partState : Part → History → List (List ℕ)
 partState P h = map (λ (x : Pair). x .1) (keep (λ (x : Pair). holds P (x .0)) (panel (h .site) (ended h)))
+
+-- ── the list with every entry outside the part left out
+
+-- The entries of a journal that belong to the part, in order.
+unfoldable pub partJournal : Part → List ℕ → List ℕ
+partJournal P journal = flatten (keep (λ (b : List ℕ). belongs P (entryOf b)) (entries journal))
+
+-- A run of them, with room for their answers.
+unfoldable pub partRun : Part → Run → Run
+partRun P r =
+    record {
+      journal = partJournal P (r .journal);
+      answers = take (length (partJournal P (r .journal)) / n.entry-size * n.answer-size) (r .answers);
+    }
+
+-- The runs that are worked through, each with the part's entries alone; one that is turned back has no entries and stays.
+unfoldable pub partRuns : Part → List ℕ → List ℕ → List Run → List Run
+partRuns P site state [] = []
+partRuns P site state (r ∷ rs) =
+    (if isWorked (runOn site state r .returned) then partRun P r else r) ∷ partRuns P site (runOn site state r .state) rs
+
+-- The list of these runs, on the same site.
+unfoldable pub othersLeftOut : Part → History → History
+othersLeftOut P h =
+    record { site = h .site; buffer = h .buffer; accepted = h .accepted; runs = partRuns P (h .site) (begun h) (h .runs) }

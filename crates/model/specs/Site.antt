@@ -156,7 +156,7 @@ abbrev pub daysGiven : List ℕ → ℕ
 daysGiven s = field 18 2 s
 
 -- "Flags: 0 master, 1 passback and 2 occupancy exemption, 3 trace, 4 extended time .. 3: threat authority .. 8 activation, 12 expiry
--- (4 each) .. 20 absentee days .. 24 and 28 rights numbers or NONE."
+-- (4 each) .. 20 absentee days .. 24 and 28 rights numbers or NONE." Document 02, job 4: "Credential offset 22 (1 byte, 0 unset) is the most wrong tries".
 unfoldable pub credentialOf : List ℕ → Credential
 credentialOf s =
     record {
@@ -169,6 +169,7 @@ credentialOf s =
       activation = field 8 4 s;
       expiry = field 12 4 s;
       «absentee_days» = field 20 2 s;
+      «most_wrong_tries» = field 22 1 s;
       «first_rights» = rightsId (reference 24 s);
       «second_rights» = rightsId (reference 28 s);
     }

@@ -7,7 +7,7 @@ use lib.ListN.{length, take, drop}
 use Rattle.octets.specs.Octets.{field, digits}
 use Rattle.model.specs.Words.{if_then_else_, all, zeros, bitOf}
 use Rattle.model.specs.Numbers.{NONE, NEVER, record-size, access-zone, access-point, access-credential, largest-disable}
-use Rattle.model.specs.Site.{zoneId, pointId, credentialId, recordKind, reference, pointOf, disableGiven, usesGiven, daysGiven, isAt, records}
+use Rattle.model.specs.Site.{zoneId, pointId, credentialId, recordKind, reference, pointOf, credentialOf, disableGiven, usesGiven, daysGiven, isAt, records}
 use Rattle.model.specs.Accept.{clear, noneOrExists}
 use Rattle.model.specs.declared.RecordKind.{RecordKind}
 use Rattle.model.specs.declared.RecordKind.the-variants.{OfZone, OfPoint, OfRule, OfCredential, OfFactor, OfUnknown}
@@ -48,7 +48,8 @@ pointBytes p =
     ++ digits 4 (p .«first_failure») ++ digits 4 (p .«waiting_credential» .0) ++ digits 4 (p .«waiting_since») ++ zeros 8
 
 -- "Credential: 0 uses, 2 days (2 each), 4 last use, 8 zone, 12 entered (4 each), 16 last event (2), 18 disable (1), 20 last
--- point (4)." Document 02, job 5: "The credential's state gains last grant at offset 24 (4 bytes, .. older states' zeros are time 0)."
+-- point (4)." Document 02, job 4: "The credential's state gains the count at offset 19", of wrong tries. Job 5: "The credential's state gains last grant at
+-- offset 24 (4 bytes, .. older states' zeros are time 0)."
 unfoldable pub credentialStateOf : List ℕ → CredentialState
 credentialStateOf t =
     record {
@@ -59,6 +60,7 @@ credentialStateOf t =
       entered = field 12 4 t;
       «last_event» = field 16 2 t;
       disable = field 18 1 t;
+      «wrong_tries» = field 19 1 t;
       «last_point» = pointId (reference 20 t);
       «last_grant» = field 24 4 t;
     }
@@ -67,7 +69,7 @@ credentialStateOf t =
 unfoldable pub credentialBytes : CredentialState → List ℕ
 credentialBytes c =
     digits 2 (c .uses) ++ digits 2 (c .days) ++ digits 4 (c .«last_use») ++ digits 4 (c .zone .0) ++ digits 4 (c .entered)
-    ++ digits 2 (c .«last_event») ++ digits 1 (c .disable) ++ zeros 1 ++ digits 4 (c .«last_point» .0)
+    ++ digits 2 (c .«last_event») ++ digits 1 (c .disable) ++ digits 1 (c .«wrong_tries») ++ digits 4 (c .«last_point» .0)
     ++ digits 4 (c .«last_grant») ++ zeros 4
 
 -- ── the panel: the site records, each with its state record, in file order
@@ -154,6 +156,7 @@ freshWith uses days disable =
       entered = NEVER;
       «last_event» = 0;
       disable = disable;
+      «wrong_tries» = 0;
       «last_point» = pointId NONE;
       «last_grant» = NEVER;
     }
@@ -186,30 +189,32 @@ fresh site = flatten (map freshRecord (records site))
 unfoldable pub zoneWell : List ℕ → Bool
 zoneWell t = clear 4 28 t
 
--- "failures below the most (0 if unset)".
-unfoldable pub failuresWell : ℕ → ℕ → Bool
-failuresWell failures most = if eqb most 0 then eqb failures 0 else ltb failures most
+-- "failures below the most (0 if unset)". Document 02, job 4: wrong tries likewise, "that count below its most, 0 if unset".
+unfoldable pub belowMost : ℕ → ℕ → Bool
+belowMost counted most = if eqb most 0 then eqb counted 0 else ltb counted most
 
 -- A point: "unnamed bytes zero, fields in range, references NONE or existing, locked points wait for nobody, failures below the most".
 unfoldable pub pointWell : List (List ℕ) → List ℕ → List ℕ → Bool
 pointWell ss s t =
     leb (lockedByte t) 1 && clear 6 2 t && clear 24 8 t && noneOrExists ss access-credential (pointStateOf t .«waiting_credential» .0)
     && (not (pointStateOf t .locked) || eqb (pointStateOf t .«waiting_credential» .0) NONE)
-    && failuresWell (pointStateOf t .failures) (pointOf s .«most_failures»)
+    && belowMost (pointStateOf t .failures) (pointOf s .«most_failures»)
 
--- A credential: "unnamed bytes zero, fields in range, references NONE or existing"; last grant may be any time.
-unfoldable pub credentialWell : List (List ℕ) → List ℕ → Bool
-credentialWell ss t =
-    leb (credentialStateOf t .disable) largest-disable && clear 19 1 t && clear 28 4 t
+-- A credential: "unnamed bytes zero, fields in range, references NONE or existing"; last grant may be any time. Document 02, job 4: "Well formed then
+-- includes that count below its most, 0 if unset."
+unfoldable pub credentialWell : List (List ℕ) → List ℕ → List ℕ → Bool
+credentialWell ss s t =
+    leb (credentialStateOf t .disable) largest-disable && clear 28 4 t
     && noneOrExists ss access-zone (credentialStateOf t .zone .0)
     && noneOrExists ss access-point (credentialStateOf t .«last_point» .0)
+    && belowMost (credentialStateOf t .«wrong_tries») (credentialOf s .«most_wrong_tries»)
 
 -- A state record, beside its site record, in a site of the records ss.
 abbrev pub recordWellAs : RecordKind → List (List ℕ) → Pair → Bool
 recordWellAs OfZone ss x = zoneWell (x .1)
 recordWellAs OfPoint ss x = pointWell ss (x .0) (x .1)
 recordWellAs OfRule ss x = clear 0 record-size (x .1)
-recordWellAs OfCredential ss x = credentialWell ss (x .1)
+recordWellAs OfCredential ss x = credentialWell ss (x .0) (x .1)
 recordWellAs OfFactor ss x = clear 0 record-size (x .1)
 recordWellAs OfUnknown ss x = clear 0 record-size (x .1)
 

@@ -133,7 +133,7 @@ adjustOutcome e counted =
 
 -- ── operation 4: "Set a credential's disable to the argument." Of operations 2 to 5 it alone fills the credential.
 
--- The credential with that disable.
+-- The credential with that disable. Document 02, job 4: "operation 4 also zeroes" its wrong tries.
 unfoldable pub disableAfter : CredentialState → ℕ → CredentialState
 disableAfter c disable =
     record {
@@ -144,6 +144,7 @@ disableAfter c disable =
       entered = c .entered;
       «last_event» = c .«last_event»;
       disable = disable;
+      «wrong_tries» = 0;
       «last_point» = c .«last_point»;
       «last_grant» = c .«last_grant»;
     }

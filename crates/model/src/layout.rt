@@ -131,9 +131,9 @@ pub const CREDENTIAL_DAYS: usize = 18;
 
 pub const CREDENTIAL_ABSENTEE_DAYS: usize = 20;
 
-pub const CREDENTIAL_SPARE: usize = 22;
+pub const CREDENTIAL_MOST_WRONG_TRIES: usize = 22;
 
-pub const CREDENTIAL_SPARE_SIZE: usize = 2;
+pub const CREDENTIAL_SPARE_BYTE: usize = 23;
 
 pub const CREDENTIAL_FIRST_RIGHTS: usize = 24;
 
@@ -201,7 +201,7 @@ pub const CREDENTIAL_STATE_LAST_EVENT: usize = 16;
 
 pub const CREDENTIAL_STATE_DISABLE: usize = 18;
 
-pub const CREDENTIAL_STATE_SPARE_BYTE: usize = 19;
+pub const CREDENTIAL_STATE_WRONG_TRIES: usize = 19;
 
 pub const CREDENTIAL_STATE_LAST_POINT: usize = 20;
 

@@ -61,6 +61,7 @@ pub struct Credential {
     pub activation: u32,
     pub expiry: u32,
     pub absentee_days: u16,
+    pub most_wrong_tries: u8,
     pub first_rights: RightsId,
     pub second_rights: RightsId,
 }
@@ -85,6 +86,7 @@ pub struct CredentialState {
     pub entered: u32,
     pub last_event: u16,
     pub disable: u8,
+    pub wrong_tries: u8,
     pub last_point: PointId,
     pub last_grant: u32,
 }

@@ -134,6 +134,13 @@ pub fn point_of(part: &[u8]) -> Point
     }
 }
 
+pub fn most_wrong_tries_of(part: &[u8]) -> u8
+    requires { ⌜ Part (now part) ⌝ }
+    ensures { λ r. ⌜ r ≡ credentialOf (now (part .entry)) .«most_wrong_tries» ⌝ }
+{
+    byte_at(part, layout::CREDENTIAL_MOST_WRONG_TRIES)
+}
+
 pub fn credential_of(part: &[u8]) -> Credential
     requires { ⌜ Part (now part) ⌝ }
     ensures { λ r. ⌜ r ≡ credentialOf (now (part .entry)) ⌝ }
@@ -148,6 +155,7 @@ pub fn credential_of(part: &[u8]) -> Credential
         activation: long_at(part, layout::CREDENTIAL_ACTIVATION),
         expiry: long_at(part, layout::CREDENTIAL_EXPIRY),
         absentee_days: short_at(part, layout::CREDENTIAL_ABSENTEE_DAYS),
+        most_wrong_tries: most_wrong_tries_of(part),
         first_rights: RightsId(reference_at(part, layout::CREDENTIAL_FIRST_RIGHTS)),
         second_rights: RightsId(reference_at(part, layout::CREDENTIAL_SECOND_RIGHTS)),
     }

@@ -70,6 +70,13 @@ pub fn credential_zone_of(part: &[u8]) -> ZoneId
     ZoneId(reference_at(part, layout::CREDENTIAL_STATE_ZONE))
 }
 
+pub fn wrong_tries_of(part: &[u8]) -> u8
+    requires { ⌜ Part (now part) ⌝ }
+    ensures { λ r. ⌜ r ≡ credentialStateOf (now (part .entry)) .«wrong_tries» ⌝ }
+{
+    byte_at(part, layout::CREDENTIAL_STATE_WRONG_TRIES)
+}
+
 pub fn last_point_of(part: &[u8]) -> PointId
     requires { ⌜ Part (now part) ⌝ }
     ensures { λ r. ⌜ r ≡ credentialStateOf (now (part .entry)) .«last_point» ⌝ }
@@ -89,6 +96,7 @@ pub fn credential_state_of(part: &[u8]) -> CredentialState
         entered: long_at(part, layout::CREDENTIAL_STATE_ENTERED),
         last_event: short_at(part, layout::CREDENTIAL_STATE_LAST_EVENT),
         disable: credential_disable_of(part),
+        wrong_tries: wrong_tries_of(part),
         last_point: last_point_of(part),
         last_grant: long_at(part, layout::CREDENTIAL_STATE_LAST_GRANT),
     }
@@ -122,6 +130,7 @@ pub fn fresh_credential(uses: u16, days: u16, disable: u8) -> CredentialState
         entered: NEVER,
         last_event: 0,
         disable: disable,
+        wrong_tries: 0,
         last_point: PointId(NONE),
         last_grant: NEVER,
     }
@@ -177,6 +186,15 @@ pub fn write_remaining(part: &mut [u8], uses: u16, days: u16)
     octets::put_u16(part, layout::CREDENTIAL_STATE_DAYS, days);
 }
 
+// A credential's disable and the wrong tries that may set it.
+pub fn write_disable(part: &mut [u8], disable: u8, wrong_tries: u8)
+    requires { ⌜ length (now part) ≡ 32 ⌝ }
+    ensures { λ _. ⌜ now (part .exit) ≡ put 19 1 «wrong_tries» (put 18 1 disable (now (part .entry))) ⌝ }
+{
+    octets::put_u8(part, layout::CREDENTIAL_STATE_DISABLE, disable);
+    octets::put_u8(part, layout::CREDENTIAL_STATE_WRONG_TRIES, wrong_tries);
+}
+
 pub fn write_credential(part: &mut [u8], c: CredentialState)
     requires { ⌜ length (now part) ≡ 32 ⌝ }
     ensures { λ _. ⌜ now (part .exit) ≡ credentialBytes c ⌝ }
@@ -187,7 +205,7 @@ pub fn write_credential(part: &mut [u8], c: CredentialState)
     octets::put_u32(part, layout::CREDENTIAL_STATE_ZONE, c.zone.0);
     octets::put_u32(part, layout::CREDENTIAL_STATE_ENTERED, c.entered);
     octets::put_u16(part, layout::CREDENTIAL_STATE_LAST_EVENT, c.last_event);
-    octets::put_u8(part, layout::CREDENTIAL_STATE_DISABLE, c.disable);
+    write_disable(part, c.disable, c.wrong_tries);
     octets::put_u32(part, layout::CREDENTIAL_STATE_LAST_POINT, c.last_point.0);
     octets::put_u32(part, layout::CREDENTIAL_STATE_LAST_GRANT, c.last_grant);
 }

@@ -125,11 +125,7 @@ fn credential_in_range(part: &[u8]) -> bool
     (site::flags_of(part) < layout::CREDENTIAL_FLAGS_END)
         & (site::disable_given(part) <= LARGEST_DISABLE)
         & (c.threat_authority <= LARGEST_THREAT)
-        & is_clear(
-            part,
-            layout::CREDENTIAL_SPARE,
-            layout::CREDENTIAL_SPARE_SIZE,
-        )
+        & is_clear(part, layout::CREDENTIAL_SPARE_BYTE, 1)
         & (c.first_rights.0 <= NONE)
         & (c.second_rights.0 <= NONE)
 }

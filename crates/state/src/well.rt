@@ -3,7 +3,7 @@ ghost use mathlib.Core.Path.{_≡_};
 ghost use Prim.Native.Nat.{_%_};
 ghost use lib.ListN.{length};
 ghost use Rattle.model.specs.Site.{records};
-ghost use Rattle.model.specs.State.{zoneWell, failuresWell, pointWell, credentialWell, recordWell, wellFormed};
+ghost use Rattle.model.specs.State.{zoneWell, belowMost, pointWell, credentialWell, recordWell, wellFormed};
 ghost use Rattle.index.specs.Index.{Indexed};
 use model::RecordKind;
 use model::layout;
@@ -11,12 +11,14 @@ use model::numbers::LARGEST_DISABLE;
 use model::numbers::NONE;
 use model::numbers::RECORD_SIZE;
 use records::site::most_failures_of;
+use records::site::most_wrong_tries_of;
 use records::site::record_kind_of;
 use records::state::credential_disable_of;
 use records::state::credential_zone_of;
 use records::state::last_point_of;
 use records::state::locked_byte_of;
 use records::state::point_state_of;
+use records::state::wrong_tries_of;
 use site::indexed::none_or_credential_exists;
 use site::indexed::none_or_point_exists;
 use site::indexed::none_or_zone_exists;
@@ -29,14 +31,14 @@ fn zone_well(t: &[u8]) -> bool
     is_clear(t, layout::ZONE_STATE_SPARE, layout::ZONE_STATE_SPARE_SIZE)
 }
 
-// Failures are below the most, and none where no most is set.
-fn failures_well(failures: u8, most: u8) -> bool
-    ensures { λ r. ⌜ r ≡ failuresWell failures most ⌝ }
+// Failures, or wrong tries, are below the most, and none where no most is set.
+fn is_below_most(count: u8, most: u8) -> bool
+    ensures { λ r. ⌜ r ≡ belowMost count most ⌝ }
 {
     if most == 0 {
-        return failures == 0;
+        return count == 0;
     }
-    failures < most
+    count < most
 }
 
 fn point_well(site: &[u8], index: &[u16], s: &[u8], t: &[u8]) -> bool
@@ -54,16 +56,15 @@ fn point_well(site: &[u8], index: &[u16], s: &[u8], t: &[u8]) -> bool
         & is_clear(t, layout::POINT_STATE_SPARE, layout::POINT_STATE_SPARE_SIZE)
         & none_or_credential_exists(site, index, p.waiting_credential)
         & (!p.locked | (p.waiting_credential.0 == NONE))
-        & failures_well(p.failures, most_failures_of(s))
+        & is_below_most(p.failures, most_failures_of(s))
 }
 
-fn credential_well(site: &[u8], index: &[u16], t: &[u8]) -> bool
+fn credential_well(site: &[u8], index: &[u16], s: &[u8], t: &[u8]) -> bool
     requires { ⌜ Indexed (now site) (now index) ⌝ }
-    requires { ⌜ length (now t) ≡ 32 ⌝ }
-    ensures { λ r. ⌜ r ≡ credentialWell (records (now (site .entry))) (now (t .entry)) ⌝ }
+    requires { ⌜ (length (now s) ≡ 32) × (length (now t) ≡ 32) ⌝ }
+    ensures { λ r. ⌜ r ≡ credentialWell (records (now (site .entry))) (now (s .entry)) (now (t .entry)) ⌝ }
 {
     (credential_disable_of(t) <= LARGEST_DISABLE)
-        & is_clear(t, layout::CREDENTIAL_STATE_SPARE_BYTE, 1)
         & is_clear(
             t,
             layout::CREDENTIAL_STATE_SPARE,
@@ -71,6 +72,7 @@ fn credential_well(site: &[u8], index: &[u16], t: &[u8]) -> bool
         )
         & none_or_zone_exists(site, index, credential_zone_of(t))
         & none_or_point_exists(site, index, last_point_of(t))
+        & is_below_most(wrong_tries_of(t), most_wrong_tries_of(s))
 }
 
 // The state record t of the site record s.
@@ -82,7 +84,7 @@ fn record_well(site: &[u8], index: &[u16], s: &[u8], t: &[u8]) -> bool
     match record_kind_of(s) {
         RecordKind::OfZone => zone_well(t),
         RecordKind::OfPoint => point_well(site, index, s, t),
-        RecordKind::OfCredential => credential_well(site, index, t),
+        RecordKind::OfCredential => credential_well(site, index, s, t),
         RecordKind::OfRule | RecordKind::OfFactor | RecordKind::OfUnknown => {
             is_clear(t, 0, RECORD_SIZE)
         }

@@ -15,7 +15,7 @@ returns c =
       c .before .before .before .is-first-failure .ensures,
       d .choose-long .ensures,
       d .before .is-still-locked .ensures,
-      d .before .before .failures-after .ensures,
+      d .before .before .count-kept .ensures,
       d .before .before .before .failures-before .ensures,
       f .failures-with .ensures,
       f .before .next-tag .ensures,

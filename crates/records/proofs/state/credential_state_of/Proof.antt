@@ -7,5 +7,5 @@ use Rattle.records.proofs.state.credential_state_of.Tie as tie
 pub credential-state-of-spec : {M : Type 1} → statement M
 unfolding credentialStateOf
 credential-state-of-spec =
-    tie.close (tie.spec (λ c κs. search needs) (λ c κs. search needs) (λ c κs. search needs) (λ c κs. search needs) (λ c κs. search needs)
+    tie.close (tie.spec (λ c κs. search needs) (λ c κs. search needs) (λ c κs. search needs) (λ c κs. search needs) (λ c κs. search needs) (λ c κs. search needs)
     (λ c κs. search needs) (λ c κs. search needs) (λ c κs. search needs) (λ c κs. search needs) (λ c. cc))
