@@ -25,6 +25,7 @@ use Rattle.model.specs.declared.Outcome.{Outcome}
 use Rattle.model.specs.declared.Operation.{Operation}
 use Rattle.model.specs.declared.Operation.the-variants.{Factor, SetCount, AdjustCount, SetDisable, SetService, Unknown}
 use Rattle.model.proofs.Laws.{if-holds, kind-at, There, find-in, found, sites-write, sites-apply, find-write-other, find-write-same, all-found-in, found-in}
+use Rattle.model.proofs.Outcomes.{entry-holds}
 use Rattle.model.proofs.RoundTrip.{count-back, event-back, refusal-back}
 use Rattle.model.proofs.Flat.{freshPanel, sites-fresh, find-fresh}
 use Rattle.model.proofs.Runs.{object-found, object-real, object-there, workedAt, allEntries, accepted, ended-panel, worked-list}
@@ -207,16 +208,10 @@ module _ (z : ℕ) (not-none : eqb z NONE ≡ false) (ps : Panel) (t : Tally) (h
 
   -- Any entry.
   fits-entry : all inRange (sites ps) ≡ true → Fits (operationOf (e .operation)) (entryOutcome ps e)
-  unfolding entryOutcome outcomeAs find
-  fits-entry a = go (operationOf (e .operation))
-    where
-      there : (o : Operation) (c : Bool) → missing (find (objectKind o) (e .instance) ps .0) ≡ c →
-          Fits o (if c then refuse n.refused-no-object else workedOutcome o ps e (find (objectKind o) (e .instance) ps))
-      there o true q = fits-refuse n.refused-no-object refl o
-      there o false q = fits-worked a o _ refl (found (isAt (objectKind o) (e .instance)) ps q) q
-
-      go : (o : Operation) → Fits o (outcomeAs o ps e (find (objectKind o) (e .instance) ps))
-      go o = if-holds (Fits o) (not (inForm o e)) (refuse n.refused-form) _ (fits-refuse n.refused-form refl o) (there o _ refl)
+  unfolding find
+  fits-entry a =
+      entry-holds Fits ps e (λ o r d. fits-refuse r d o)
+      (λ o x f i g. fits-worked a o x f (rw f at (found (isAt (objectKind o) (e .instance)) ps (rw f g))) g)
 
 -- ── a list of entries
 

@@ -26,51 +26,14 @@ use Rattle.model.specs.declared.CredentialState.{CredentialState}
 use Rattle.model.specs.declared.Operation.{Operation}
 use Rattle.model.specs.declared.Operation.the-variants.{Factor, SetCount, AdjustCount, SetDisable, SetService, Unknown}
 use Rattle.model.proofs.Laws.{if-holds, and-left, and-right, kind-at, There, sites-write, sites-apply, find-write-other, find-write-same, found-in}
+use Rattle.model.proofs.Outcomes.{entry-holds}
 use Rattle.model.proofs.RoundTrip.{credential-back, event-back, credential-named-back}
 use Rattle.model.proofs.Flat.{freshPanel, find-fresh}
 use Rattle.model.proofs.Runs.{object-found, object-real, object-there, workedAt, allEntries, ended-panel, worked-list}
 use Rattle.model.proofs.Granted.{granted-days}
-
--- ── a credential's state after a write
-
-abbrev isCredential : ℕ → List ℕ → Bool
-isCredential c = isAt n.access-credential c
-
--- Credential c's state in a panel.
-unfoldable held : ℕ → Panel → CredentialState
-held c ps = credentialStateOf (find n.access-credential c ps .1)
-
--- The state that an outcome leaves a credential of the state s.
-unfoldable heldBy : ℕ → Outcome → CredentialState → CredentialState
-heldBy c o s = if o .credential .written && eqb (o .credential .instance .0) c then o .credential .state else s
-
--- The four writes of an outcome.
-held-apply : (c : ℕ) → eqb c NONE ≡ false → (o : Outcome) (ps : Panel) → There n.access-credential c ps → held c (apply o ps) ≡ heldBy c o (held c ps)
-unfolding apply held heldBy
-held-apply c not-none o ps g =
-    let to = o .«zone_to» in
-    let from = o .«zone_from» in
-    let left = write (from .written) n.access-zone (from .instance .0) (zoneBytes (from .count)) ps in
-    let moved = write (to .written) n.access-zone (to .instance .0) (zoneBytes (to .count)) left in
-    let there : There n.access-credential c moved = rw (sites-write, sites-write) g in
-    rw (
-      find-write-other n.access-credential c (o .point .written) n.access-point _ _ _ refl,
-      find-write-same n.access-credential c not-none (o .credential .written) _ _ moved there,
-      find-write-other n.access-credential c (to .written) n.access-zone _ _ left refl,
-      find-write-other n.access-credential c (from .written) n.access-zone _ _ ps refl,
-    )
-    (go (o .credential .written && eqb (o .credential .instance .0) c))
-  where
-    go : (b : Bool) → credentialStateOf (if b then credentialBytes (o .credential .state) else find n.access-credential c ps .1)
-        ≡ (if b then o .credential .state else credentialStateOf (find n.access-credential c ps .1))
-    go true = credential-back (o .credential .state)
-    go false = refl
+use Rattle.model.proofs.Credentials.{held, heldBy, held-apply, grants, named-number, state-read, held-fresh, state-left}
 
 -- ── what an outcome leaves of days and last grant
-
--- The answer grants the credential c.
-abbrev grants : ℕ → Answer → Bool
-grants c a = eqb (a .event) n.granted && eqb (a .credential .0) c
 
 -- A grant at that time takes one of the days of the state s.
 unfoldable takesDay : ℕ → CredentialState → Bool
@@ -93,15 +56,6 @@ unfolding refuse unchanged
 leaves-refuse c e s r = leaves-none c e s (refuse r) refl refl
 
 module _ (c : ℕ) (not-none : eqb c NONE ≡ false) (e : Entry) where
-  -- An answer that names c is about the credential that was read.
-  named-number : (v : Situation) (x : ℕ) → eqb (named v x .0) c ≡ true → v .number .0 ≡ c
-  unfolding named
-  named-number v x = go (not (waiting v) && (eqb x n.denied-lockout || eqb x n.denied-authentication-factor-error))
-    where
-      go : (b : Bool) → eqb ((if b then credentialId NONE else v .number) .0) c ≡ true → v .number .0 ≡ c
-      go true h = absurd (eqb-false c NONE not-none (sym (eqb-true NONE c h)))
-      go false h = eqb-true (v .number .0) c h
-
   -- Any event x of a factor read whose situation holds the state of c, if the answer names c.
   leaves-event : (v : Situation) (s : CredentialState) (x : ℕ) → (eqb (named v x .0) c ≡ true → v .«credential_state» ≡ s) →
       (eqb (named v x .0) c ≡ true → eqb x n.granted ≡ true → (eqb (e .time) NEVER ≡ false) × (eqb (s .days) 0 ≡ false)) →
@@ -128,11 +82,6 @@ module _ (c : ℕ) (not-none : eqb c NONE ≡ false) (e : Entry) where
             known = λ g. absurd (false≢true (rw q at g));
           }
 
-  -- The situation of the credential c holds its state.
-  state-read : (ps : Panel) (x : Pair) → situationOf ps e x .number .0 ≡ c → situationOf ps e x .«credential_state» ≡ held c ps
-  unfolding situationOf credentialAt seek held
-  state-read ps x h = rw (h, not-none)
-
   -- "time never" is refused.
   timed : (o : Operation) → inForm o e ≡ true → eqb (e .time) NEVER ≡ false
   unfolding inForm
@@ -146,8 +95,8 @@ module _ (c : ℕ) (not-none : eqb c NONE ≡ false) (e : Entry) where
       let event = eventOf v (rulesAt ps e x) e in
       if-holds (Leaves c e (held c ps)) (pointOf (x .0) .«out_of_service») (unchanged _) (outcomeOf v e event)
       (leaves-none c e (held c ps) (unchanged _) refl refl)
-      (leaves-event v (held c ps) event (λ p. state-read ps x (named-number v event p))
-      (λ p q. (timed Factor f, rw (state-read ps x (named-number v event p)) at (granted-days ps e x (eqb-true event 1 q)))))
+      (leaves-event v (held c ps) event (λ p. state-read c not-none e ps x (named-number c not-none v event p))
+      (λ p q. (timed Factor f, rw (state-read c not-none e ps x (named-number c not-none v event p)) at (granted-days ps e x (eqb-true event 1 q)))))
 
   -- Operation 4, at the records x of the credential that it names.
   leaves-disable : (ps : Panel) (x : Pair) → find n.access-credential (e .instance) ps ≡ x →
@@ -177,15 +126,8 @@ module _ (c : ℕ) (not-none : eqb c NONE ≡ false) (e : Entry) where
 
   -- Any entry.
   leaves-entry : (ps : Panel) → Leaves c e (held c ps) (entryOutcome ps e)
-  unfolding entryOutcome outcomeAs
-  leaves-entry ps = go (operationOf (e .operation)) (inForm (operationOf (e .operation)) e) refl
-    where
-      go : (o : Operation) (b : Bool) → inForm o e ≡ b →
-          Leaves c e (held c ps) (if not b then refuse n.refused-form else if missing (find (objectKind o) (e .instance) ps .0) then refuse n.refused-no-object else workedOutcome o ps e (find (objectKind o) (e .instance) ps))
-      go o false i = leaves-refuse c e (held c ps) _
-      go o true i =
-          if-holds (Leaves c e (held c ps)) (missing (find (objectKind o) (e .instance) ps .0)) (refuse _) (workedOutcome o ps e _)
-          (leaves-refuse c e (held c ps) _) (leaves-worked ps o _ refl i)
+  leaves-entry ps =
+      entry-holds (λ o. Leaves c e (held c ps)) ps e (λ o r d. leaves-refuse c e (held c ps) r) (λ o x f i g. leaves-worked ps o x f i)
 
 -- ── a list of entries
 
@@ -285,23 +227,10 @@ module _ (c : ℕ) (not-none : eqb c NONE ≡ false) where
 
 -- ── lists of runs from fresh
 
--- A credential's fresh state.
-held-fresh : (c : ℕ) (ss : List (List ℕ)) → missing (findIn (isCredential c) ss) ≡ false →
-    held c (freshPanel ss) ≡ freshCredential (findIn (isCredential c) ss)
-unfolding held find freshRecord
-held-fresh c ss g =
-    rw (find-fresh (isCredential c) ss g, kind-at n.access-credential c (findIn (isCredential c) ss) (found-in (isCredential c) ss g))
-    (credential-back (freshCredential (findIn (isCredential c) ss)))
-
--- The state and the grants of the list, by its entries from the fresh panel.
-module _ (h : History) (c : ℕ) where
-  state-left : stateLeft c h ≡ held c (after (freshPanel (records (h .site))) (map entryOf (allEntries h)))
-  unfolding stateLeft held
-  state-left = rw (ended-panel h)
-
-  times-granted : timesGranted c h ≡ grantTimes c (workedAt (freshPanel (records (h .site))) (allEntries h))
-  unfolding timesGranted
-  times-granted = rw (worked-list h)
+-- The grants of the list, by its entries from the fresh panel.
+times-granted : (h : History) (c : ℕ) → timesGranted c h ≡ grantTimes c (workedAt (freshPanel (records (h .site))) (allEntries h))
+unfolding timesGranted
+times-granted h c = rw (worked-list h)
 
 pub last-grant : LastGrant
 unfolding LastGrant freshCredential freshWith

@@ -23,6 +23,7 @@ use Rattle.model.specs.Calls.{freshReturned}
 use Rattle.model.specs.Lists.{runOn, firstOf, eventIn, credentialIn}
 use Rattle.model.specs.Demands.{GrantEarned}
 use Rattle.model.proofs.Laws.{if-holds, and-left, and-right, found-in}
+use Rattle.model.proofs.Outcomes.{entry-holds}
 use Rattle.model.proofs.RoundTrip.{event-back, credential-named-back}
 use Rattle.model.proofs.Flat.{sites-after, sites-panel, panel-back}
 use Rattle.model.proofs.Runs.{site-accepted, site-worked, worked-through}
@@ -351,6 +352,12 @@ pub granted-days : (ps : Panel) (e : Entry) (p : Pair) → eventOf (situationOf 
 unfolding rulesAt situationOf said
 granted-days ps e p h = passed-all (situationOf ps e p) (sites ps) e h .is-valid .days
 
+-- It is not locked out.
+pub granted-enabled : (ps : Panel) (e : Entry) (p : Pair) → eventOf (situationOf ps e p) (rulesAt ps e p) e ≡ 1 →
+    eqb (situationOf ps e p .«credential_state» .disable) n.disable-lockout ≡ false
+unfolding rulesAt situationOf said
+granted-enabled ps e p h = passed-all (situationOf ps e p) (sites ps) e h .is-valid .not-lockout
+
 -- An entry that is answered with event 1: a factor read at a point in service, whose order of checks came to 1.
 record Grant (o : Operation) (ps : Panel) (e : Entry) (x : Pair) (credential : CredentialId) : Type 0 where
   is-factor : o ≡ Factor
@@ -403,14 +410,9 @@ granting-worked SetService ps e x = λ h. absurd (either (locks e) 7 8 (λ z. om
 granting-worked Unknown ps e x = granting-refuse _ Unknown ps e x
 
 granting-entry : (ps : Panel) (e : Entry) → Granting (operationOf (e .operation)) ps e (find (objectKind (operationOf (e .operation))) (e .instance) ps) (entryOutcome ps e)
-unfolding entryOutcome outcomeAs
-granting-entry ps e = go (operationOf (e .operation))
-  where
-    go : (o : Operation) → Granting o ps e (find (objectKind o) (e .instance) ps) (outcomeAs o ps e (find (objectKind o) (e .instance) ps))
-    go o =
-        let x = find (objectKind o) (e .instance) ps in
-        if-holds (Granting o ps e x) (not (inForm o e)) (refuse _) (if missing (x .0) then refuse _ else _) (granting-refuse _ o ps e x)
-        (if-holds (Granting o ps e x) (missing (x .0)) (refuse _) (workedOutcome o ps e x) (granting-refuse _ o ps e x) (granting-worked o ps e x))
+granting-entry ps e =
+    entry-holds (λ o. Granting o ps e (find (objectKind o) (e .instance) ps)) ps e (λ o r d. granting-refuse r o ps e _)
+    (λ o x f i g. rw f (granting-worked o ps e x))
 
 -- At a panel whose state is well formed.
 earned-entry : (ps : Panel) (e : Entry) → all (recordWell (sites ps)) ps ≡ true → entryOutcome ps e .answer .event ≡ 1 →

@@ -12,6 +12,8 @@ pub mod Flat
 pub mod Runs
 pub mod Entries
 pub mod Whole
+pub mod Outcomes
+pub mod Credentials
 pub mod Counted
 pub mod Border
 pub mod Isolated
@@ -26,4 +28,5 @@ pub mod ShiftsAccepted
 pub mod Untouched
 pub mod Granted
 pub mod DayPasses
+pub mod WrongTries
 pub mod Instances

@@ -17,6 +17,7 @@ use Rattle.model.specs.Calls.{freshState, runJournal}
 use Rattle.model.specs.Lists.{runOn, refusalIn}
 use Rattle.model.specs.Demands.{TurnedBack, Refused}
 use Rattle.model.proofs.Laws.{if-holds}
+use Rattle.model.proofs.Outcomes.{entry-holds}
 use Rattle.model.proofs.RoundTrip.{refusal-back}
 use Rattle.model.proofs.Runs.{after-append}
 use Rattle.model.proofs.Entries.{length-entries, state-at, answer-at}
@@ -51,13 +52,7 @@ refusal-worked SetService ps e x = λ h. cc
 refusal-worked Unknown ps e x = refusal-refuse _
 
 refusal-entry : (ps : Panel) (e : Entry) → Refusal (entryOutcome ps e)
-unfolding entryOutcome outcomeAs
-refusal-entry ps e = go (operationOf (e .operation))
-  where
-    go : (o : Operation) → Refusal (outcomeAs o ps e (find (objectKind o) (e .instance) ps))
-    go o =
-        if-holds Refusal (not (inForm o e)) (refuse _) (if missing (find (objectKind o) (e .instance) ps .0) then refuse _ else _) (refusal-refuse _)
-        (if-holds Refusal (missing (find (objectKind o) (e .instance) ps .0)) (refuse _) (workedOutcome o ps e _) (refusal-refuse _) (refusal-worked o ps e _))
+refusal-entry ps e = entry-holds (λ o. Refusal) ps e (λ o r d. refusal-refuse r) (λ o x f i g. refusal-worked o ps e x)
 
 -- A refusal writes nothing.
 apply-refuse : (n : ℕ) (ps : Panel) → apply (refuse n) ps ≡ ps

@@ -16,6 +16,8 @@ use Rattle.model.specs.Checks.{relinquished, stillLocked, waiting, authe
 use Rattle.model.specs.Effects.{named, isFailure, failuresBefore, failuresWith, locksOut, pointAfter, isWrongTry, wrongTriesWith, reachesMost, wrongTriesAfter, disableReached, zoneAfter, credentialAfter, outcomeWith, outcomeOf}
 use Rattle.model.specs.Step.{noPoint, noCredential, unchanged, refuse, factorRead, numberRead, credentialAt, situationOf, rulesAt, factorOutcome, countOutcome, adjusted, adjustOutcome, disableAfter, disableOutcome, locks, serviceAfter, serviceOutcome, workedOutcome, outcomeAs, entryOutcome, apply, after}
 use Rattle.model.proofs.Laws.{if-holds, and-left, and-right, or-right, kind-at, find-in, all-write, sites-write, sites-apply}
+use Rattle.model.proofs.Outcomes.{entry-holds}
+use Rattle.model.proofs.Credentials.{credential-read}
 use Rattle.model.proofs.Well.{none-fits, exists-fits, none-below, if-below, PointSound, CredentialSound, fresh-point, fresh-credential, zone-well, point-well, credential-well, point-found, credential-found, credential-sought, to-fits, number-fits}
 use Rattle.model.specs.declared.ZoneId.{ZoneId}
 use Rattle.model.specs.declared.CredentialId.{CredentialId}
@@ -261,8 +263,7 @@ module _ (ss : List (List ℕ)) (ps : Panel) (of-site : sites ps ≡ ss) (well :
     -- The credential of a factor read is that of its number.
     read-credential : let v = situationOf ps e (find n.access-point (e .instance) ps) in
         eqb (v .number .0) NONE ≡ false → v .credential ≡ credentialOf (findIn (isAt n.access-credential (v .number .0)) ss)
-    unfolding situationOf credentialAt seek
-    read-credential d = rw (d, found-site n.access-credential _)
+    read-credential d = rw (← of-site) (credential-read ps e _ d)
 
     -- Operation 1.
     sound-factor : missing (find n.access-point (e .instance) ps .0) ≡ false →
@@ -276,33 +277,20 @@ module _ (ss : List (List ℕ)) (ps : Panel) (of-site : sites ps ≡ ss) (well :
         (ap pointOf (found-site n.access-point (e .instance))) read-credential (found-fits n.access-point (e .instance) g))
 
     -- Every operation, at an object that is found.
-    sound-worked : (o : Operation) → inForm o e ≡ true → missing (find (objectKind o) (e .instance) ps .0) ≡ false →
-        Sound ss (workedOutcome o ps e (find (objectKind o) (e .instance) ps))
+    sound-worked : (o : Operation) (x : Pair) → find (objectKind o) (e .instance) ps ≡ x → inForm o e ≡ true → missing (x .0) ≡ false →
+        Sound ss (workedOutcome o ps e x)
     unfolding refuse
-    sound-worked Factor f g = sound-factor g
-    sound-worked SetCount f g = sound-count ss e (e .amount)
-    sound-worked AdjustCount f g = sound-adjust ss e _
-    sound-worked SetDisable f g = sound-disable f
-    sound-worked SetService f g = sound-service _
-    sound-worked Unknown f g = sound-unchanged ss _
+    sound-worked Factor x p f g = rw (← p) (sound-factor (rw p g))
+    sound-worked SetCount x p f g = sound-count ss e (e .amount)
+    sound-worked AdjustCount x p f g = sound-adjust ss e _
+    sound-worked SetDisable x p f g = rw (← p) (sound-disable f)
+    sound-worked SetService x p f g = rw (← p) (sound-service _)
+    sound-worked Unknown x p f g = sound-unchanged ss _
 
     -- Every entry.
     sound-entry : Sound ss (entryOutcome ps e)
-    unfolding entryOutcome outcomeAs refuse
-    sound-entry = formed (operationOf (e .operation)) (inForm (operationOf (e .operation)) e) refl
-      where
-        there : (o : Operation) → inForm o e ≡ true → (c : Bool) → missing (find (objectKind o) (e .instance) ps .0) ≡ c →
-            Sound ss (if c then refuse n.refused-no-object else workedOutcome o ps e (find (objectKind o) (e .instance) ps))
-        there o f true g = sound-unchanged ss _
-        there o f false g = sound-worked o f g
-
-        formed : (o : Operation) (c : Bool) → inForm o e ≡ c →
-            Sound ss
-            (if not c then refuse n.refused-form else
-            if missing (find (objectKind o) (e .instance) ps .0) then refuse n.refused-no-object else
-            workedOutcome o ps e (find (objectKind o) (e .instance) ps))
-        formed o true f = there o f (missing (find (objectKind o) (e .instance) ps .0)) refl
-        formed o false f = sound-unchanged ss _
+    unfolding refuse
+    sound-entry = entry-holds (λ o. Sound ss) ps e (λ o r d. sound-unchanged ss _) sound-worked
 
 -- ── the panel after an entry, and after a list of them
 

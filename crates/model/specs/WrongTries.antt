@@ -1,6 +1,6 @@
 -- Document 02, job 4: "Wrong codes follow the card." What the entries of a list and their answers show of a credential's wrong tries, beside its most in the
 -- site and its state.
-use Prim.Native.Nat.{ℕ, suc}
+use Prim.Native.Nat.{ℕ, _+_}
 use mathlib.Core.List.{List, [], _∷_}
 use mathlib.Core.Bool.{Bool, true, false, not, _&&_, _||_}
 use lib.Dec.{leb, eqb}
@@ -48,7 +48,7 @@ tried tries disable = record { tries = tries; disable = disable }
 
 -- One more wrong try: "Reaching the most sets the disable to LOCKOUT and zeroes the count".
 unfoldable pub triedOnce : ℕ → Tried → Tried
-triedOnce most t = if leb most (suc (t .tries)) then tried 0 n.disable-lockout else tried (suc (t .tries)) (t .disable)
+triedOnce most t = if leb most (t .tries + 1) then tried 0 n.disable-lockout else tried (t .tries + 1) (t .disable)
 
 -- One entry with its answer: "a grant or operation 4 also zeroes it"; a try counts where the most is set.
 unfoldable pub triedBy : ℕ → ℕ → Worked → Tried → Tried
@@ -82,4 +82,4 @@ triesIn c site state = credentialStateOf (find n.access-credential c (panel site
 unfoldable pub triesSince : ℕ → ℕ → List Worked → ℕ
 triesSince c before [] = before
 triesSince c before (w ∷ ws) =
-    triesSince c (if isDisableOf c w || isGrantOf c w then 0 else if isTryOf c w then suc before else before) ws
+    triesSince c (if isDisableOf c w || isGrantOf c w then 0 else if isTryOf c w then before + 1 else before) ws

@@ -1,0 +1,199 @@
+-- Wrong codes: a credential's wrong tries and disable after every list of runs from fresh, and the wrong tries that a grant finds.
+use Prim.Native.Nat.{ℕ, _+_}
+use native.Mathlib.Omega.{arith}
+use mathlib.Core.Path.{_≡_, refl, sym, _∙_, ap, ap₂}
+use mathlib.Core.List.{List, [], _∷_, _++_, map}
+use mathlib.Core.Bool.{Bool, true, false, not, _&&_, _||_, and-false, and-true, false≢true}
+use lib.Dec.{ltb, leb, eqb}
+use borrow.Author.Tests.{eqb-true, leb-false, lt-ltb, ltb-true}
+use Rattle.model.specs.Words.{if_then_else_, missing}
+use Rattle.model.specs.Numbers as n
+use Rattle.model.specs.Numbers.{NONE}
+use Rattle.model.specs.Site.{records, pointOf, credentialOf, findIn}
+use Rattle.model.specs.State.{Pair, Panel, sites, find, panel, credentialStateOf, freshWith, freshCredential}
+use Rattle.model.specs.Entry.{entryOf, answerBytes, operationOf, objectKind, inForm}
+use Rattle.model.specs.Checks.{eventOf}
+use Rattle.model.specs.Effects.{named, isWrongTry, wrongTriesWith, reachesMost, wrongTriesAfter, disableReached, credentialAfter, answerWith, outcomeWith, outcomeOf}
+use Rattle.model.specs.Step.{noCredential, unchanged, refuse, situationOf, rulesAt, factorOutcome, countOutcome, adjusted, adjustOutcome, disableAfter, disableOutcome, locks, serviceOutcome, workedOutcome, entryOutcome, apply, panels, after, answers}
+use Rattle.model.specs.Lists.{Worked, History}
+use Rattle.model.specs.DayPasses.{isGrantOf}
+use Rattle.model.specs.WrongTries.{isTryOf, setsDisable, isDisableOf, Tried, tried, triedOnce, triedBy, triedAfter, mostTries, triedOf, triesIn, triesSince}
+use Rattle.model.specs.Demands.{WrongTries}
+use Rattle.model.specs.declared.Credential.{Credential}
+use Rattle.model.specs.declared.Situation.{Situation}
+use Rattle.model.specs.declared.Entry.{Entry}
+use Rattle.model.specs.declared.Answer.{Answer}
+use Rattle.model.specs.declared.Outcome.{Outcome}
+use Rattle.model.specs.declared.CredentialState.{CredentialState}
+use Rattle.model.specs.declared.Operation.{Operation}
+use Rattle.model.specs.declared.Operation.the-variants.{Factor, SetCount, AdjustCount, SetDisable, SetService, Unknown}
+use Rattle.model.proofs.Laws.{if-holds, There, sites-apply}
+use Rattle.model.proofs.RoundTrip.{event-back, refusal-back, credential-named-back}
+use Rattle.model.proofs.Flat.{freshPanel, sites-fresh}
+use Rattle.model.proofs.Runs.{object-found, object-real, object-there, workedAt, allEntries, worked-list}
+use Rattle.model.proofs.Outcomes.{entry-holds}
+use Rattle.model.proofs.Granted.{granted-enabled}
+use Rattle.model.proofs.Credentials.{isCredential, held, heldBy, held-apply, grants, credential-read, named-number, state-read, held-fresh, state-left}
+
+-- ── one entry, by the fields of its answer
+
+-- The wrong tries and the disable of a state.
+abbrev triedIn : CredentialState → Tried
+triedIn s = tried (s .«wrong_tries») (s .disable)
+
+-- The answer is a wrong try of the credential c.
+abbrev misses : ℕ → Answer → Bool
+misses c a = (eqb (a .event) n.denied-authentication-factor-timeout || eqb (a .event) n.denied-incorrect-authentication-factor) && eqb (a .credential .0) c
+
+-- The answer accepts an operation 4 on it.
+abbrev disables : ℕ → Operation → Entry → Answer → Bool
+disables c o e a = setsDisable o && eqb (e .instance) c && eqb (a .refusal) n.not-refused
+
+-- What the entry makes of wrong tries and disable.
+unfoldable triedWith : ℕ → ℕ → Operation → Entry → Answer → Tried → Tried
+triedWith most c o e a t =
+    if disables c o e a then tried 0 (e .argument) else
+    if grants c a then tried 0 (t .disable) else
+    if not (eqb most 0) && misses c a then triedOnce most t else
+    t
+
+tried-answer : (most c : ℕ) (ps : Panel) (b : List ℕ) (a : Answer) (t : Tried) →
+    triedBy most c (record { found = ps; entry = b; answer = answerBytes a }) t ≡ triedWith most c (operationOf (entryOf b .operation)) (entryOf b) a t
+unfolding triedBy isDisableOf isGrantOf isTryOf triedWith
+tried-answer most c ps b a t = rw (event-back a, refusal-back a, credential-named-back a)
+
+-- ── what an outcome leaves of them
+
+-- They are those that the answer shows; and what is granted was not locked out.
+record Tries (most c : ℕ) (e : Entry) (s : CredentialState) (o : Operation) (u : Outcome) : Type 0 where
+  left : triedIn (heldBy c u s) ≡ triedWith most c o e (u .answer) (triedIn s)
+  enabled : grants c (u .answer) ≡ true → eqb (s .disable) n.disable-lockout ≡ false
+
+module _ (most c : ℕ) (e : Entry) (s : CredentialState) where
+  -- An outcome that writes no credential, neither grants nor misses, and is no accepted operation 4.
+  tries-none : (o : Operation) (u : Outcome) → u .credential ≡ noCredential → disables c o e (u .answer) ≡ false → grants c (u .answer) ≡ false →
+      misses c (u .answer) ≡ false → Tries most c e s o u
+  unfolding heldBy noCredential triedWith
+  tries-none o u k d g m = record { left = simp (k, d, g, m, and-false); enabled = λ h. absurd (false≢true (rw g at h)) }
+
+  tries-refuse : (o : Operation) (r : ℕ) → eqb r n.not-refused ≡ false → Tries most c e s o (refuse r)
+  unfolding refuse unchanged
+  tries-refuse o r d = tries-none o (refuse r) refl (simp (d, and-false)) refl refl
+
+module _ (c : ℕ) (not-none : eqb c NONE ≡ false) (most : ℕ) (e : Entry) where
+  -- The state after an event that is no grant; w says whether it is a wrong try that counts.
+  after-try : (v : Situation) (x : ℕ) (w : Bool) → isWrongTry v x ≡ w → eqb x n.granted ≡ false →
+      triedIn (credentialAfter v e x)
+      ≡ (if w then triedOnce (v .credential .«most_wrong_tries») (triedIn (v .«credential_state»)) else triedIn (v .«credential_state»))
+  unfolding credentialAfter wrongTriesAfter disableReached reachesMost wrongTriesWith triedOnce
+  after-try v x false w q = rw (q, w)
+  after-try v x true w q = rw (q, w) (choose (leb (v .credential .«most_wrong_tries») (v .«credential_state» .«wrong_tries» + 1)))
+    where
+      choose : (d : Bool) →
+          tried (if d then 0 else v .«credential_state» .«wrong_tries» + 1) (if d then n.disable-lockout else v .«credential_state» .disable)
+          ≡ (if d then tried 0 n.disable-lockout else tried (v .«credential_state» .«wrong_tries» + 1) (v .«credential_state» .disable))
+      choose true = refl
+      choose false = refl
+
+  -- The state after a grant.
+  after-grant : (v : Situation) (x : ℕ) → x ≡ n.granted → triedIn (credentialAfter v e x) ≡ tried 0 (v .«credential_state» .disable)
+  unfolding credentialAfter wrongTriesAfter disableReached reachesMost isWrongTry
+  after-grant v x q = simp (q, and-false)
+
+  -- Any event x of a factor read whose situation has the state and the most of c, if the answer names c.
+  tries-event : (v : Situation) (s : CredentialState) (x : ℕ) →
+      (eqb (named v x .0) c ≡ true → (v .«credential_state» ≡ s) × (v .credential .«most_wrong_tries» ≡ most)) →
+      (eqb (named v x .0) c ≡ true → eqb x n.granted ≡ true → eqb (s .disable) n.disable-lockout ≡ false) →
+      Tries most c e s Factor (outcomeOf v e x)
+  unfolding heldBy outcomeOf outcomeWith answerWith triedWith isWrongTry
+  tries-event v s x same enabled = go (eqb (named v x .0) c) refl (eqb x n.granted) refl (eqb x n.no-event) refl
+    where
+      counted : Bool
+      counted = not (eqb most 0) && (eqb x n.denied-authentication-factor-timeout || eqb x n.denied-incorrect-authentication-factor)
+
+      go : (b : Bool) → eqb (named v x .0) c ≡ b → (d : Bool) → eqb x n.granted ≡ d → (f : Bool) → eqb x n.no-event ≡ f → Tries most c e s Factor (outcomeOf v e x)
+      go false p d q f r = record { left = simp (p, and-false); enabled = λ g. absurd (false≢true (simp (p, and-false) at g)) }
+      go true p true q true r = absurd (let y = eqb-true x 1 q in let z = eqb-true x 0 r in omega arith)
+      go true p true q false r =
+          let k = same p in
+          record { left = rw (p, q, r) (after-grant v x (eqb-true x 1 q) ∙ ap (λ (t : CredentialState). tried 0 (t .disable)) (k .0)); enabled = λ g. enabled p q }
+      go true p false q true r = record { left = let z = eqb-true x 0 r in simp (p, z, and-false); enabled = λ g. absurd (false≢true (rw q at g)) }
+      go true p false q false r =
+          let k = same p in
+          record {
+            left =
+                simp (p, q, r, and-true)
+                (after-try v x counted (rw (k .1)) q ∙ ap₂ (λ m (t : CredentialState). if counted then triedOnce m (triedIn t) else triedIn t) (k .1) (k .0));
+            enabled = λ g. absurd (false≢true (rw q at g));
+          }
+
+  -- Operation 1, at the point's records x.
+  tries-factor : (ps : Panel) (x : Pair) → credentialOf (findIn (isCredential c) (sites ps)) .«most_wrong_tries» ≡ most →
+      Tries most c e (held c ps) Factor (factorOutcome ps e x)
+  unfolding factorOutcome unchanged
+  tries-factor ps x m =
+      let v = situationOf ps e x in
+      let event = eventOf v (rulesAt ps e x) e in
+      if-holds (Tries most c e (held c ps) Factor) (pointOf (x .0) .«out_of_service») (unchanged _) (outcomeOf v e event)
+      (tries-none most c e (held c ps) Factor (unchanged _) refl refl refl refl)
+      (tries-event v (held c ps) event
+      (λ p. let k = named-number c not-none v event p in
+      (state-read c not-none e ps x k, rw (k, m) at (ap (λ (d : Credential). d .«most_wrong_tries») (credential-read ps e x (rw k not-none)))))
+      (λ p q. rw (state-read c not-none e ps x (named-number c not-none v event p)) at (granted-enabled ps e x (eqb-true event 1 q))))
+
+  -- Operation 4, at the records x of the credential that it names.
+  tries-disable : (s t : CredentialState) → Tries most c e s SetDisable (disableOutcome e t)
+  unfolding heldBy disableOutcome disableAfter triedWith
+  tries-disable s t = go (eqb (e .instance) c) refl
+    where
+      go : (b : Bool) → eqb (e .instance) c ≡ b → Tries most c e s SetDisable (disableOutcome e t)
+      go true p = record { left = rw p; enabled = λ g. absurd (false≢true g) }
+      go false p = record { left = simp (p, and-false); enabled = λ g. absurd (false≢true g) }
+
+  -- The operation at its object's records x.
+  tries-worked : (ps : Panel) → credentialOf (findIn (isCredential c) (sites ps)) .«most_wrong_tries» ≡ most → (o : Operation) (x : Pair) →
+      Tries most c e (held c ps) o (workedOutcome o ps e x)
+  unfolding countOutcome adjustOutcome serviceOutcome
+  tries-worked ps m Factor x = tries-factor ps x m
+  tries-worked ps m SetCount x = tries-none most c e (held c ps) SetCount (countOutcome e _) refl refl refl refl
+  tries-worked ps m AdjustCount x =
+      if-holds (Tries most c e (held c ps) AdjustCount) (ltb _ (adjusted _ (e .amount))) (refuse _) (countOutcome e _)
+      (tries-refuse most c e (held c ps) AdjustCount _ refl) (tries-none most c e (held c ps) AdjustCount (countOutcome e _) refl refl refl refl)
+  tries-worked ps m SetDisable x = tries-disable (held c ps) _
+  tries-worked ps m SetService x =
+      tries-none most c e (held c ps) SetService (serviceOutcome e _ _) refl refl
+      (if-holds (λ k. eqb k n.granted && eqb NONE c ≡ false) (locks e) 7 8 refl refl)
+      (if-holds (λ k. (eqb k n.denied-authentication-factor-timeout || eqb k n.denied-incorrect-authentication-factor) && eqb NONE c ≡ false) (locks e) 7 8 refl refl)
+  tries-worked ps m Unknown x = tries-refuse most c e (held c ps) Unknown _ refl
+
+  -- Any entry.
+  tries-entry : (ps : Panel) → credentialOf (findIn (isCredential c) (sites ps)) .«most_wrong_tries» ≡ most →
+      Tries most c e (held c ps) (operationOf (e .operation)) (entryOutcome ps e)
+  tries-entry ps m =
+      entry-holds (Tries most c e (held c ps)) ps e (tries-refuse most c e (held c ps)) (λ o x f i g. tries-worked ps m o x)
+
+-- ── a list of entries
+
+module _ (c : ℕ) (not-none : eqb c NONE ≡ false) (most : ℕ) where
+  -- Wrong tries and disable after any list of entries.
+  tried-entries : (bs : List (List ℕ)) (ps : Panel) → There n.access-credential c ps →
+      credentialOf (findIn (isCredential c) (sites ps)) .«most_wrong_tries» ≡ most →
+      triedIn (held c (after ps (map entryOf bs))) ≡ triedAfter most c (triedIn (held c ps)) (workedAt ps bs)
+  unfolding after triedAfter workedAt panels answers
+  tried-entries [] ps g m = refl
+  tried-entries (b ∷ bs) ps g m =
+      let e = entryOf b in
+      let o = entryOutcome ps e in
+      let l : triedIn (held c (apply o ps)) ≡ triedBy most c (record { found = ps; entry = b; answer = answerBytes (o .answer) }) (triedIn (held c ps))
+      = rw (held-apply c not-none o ps g, tried-answer most c ps b (o .answer) (triedIn (held c ps))) (tries-entry c not-none most e ps m .left) in
+      tried-entries bs (apply o ps) (rw sites-apply g) (rw sites-apply m) ∙ ap (λ t. triedAfter most c t (workedAt (apply o ps) bs)) l
+
+-- ── lists of runs from fresh
+
+pub wrong-tries : WrongTries
+unfolding WrongTries triedOf mostTries freshCredential freshWith
+wrong-tries h c x =
+    let ss = records (h .site) in
+    let t = tried-entries c (object-real h n.access-credential c x) (mostTries c (h .site)) (allEntries h) (freshPanel ss) (object-there h n.access-credential c x) (rw (sites-fresh ss)) in
+    let u = rw (held-fresh c ss (object-found h n.access-credential c x)) at t in
+    rw (state-left h c, worked-list h) (ap (λ (k : Tried). k .tries) u, ap (λ (k : Tried). k .disable) u)
