@@ -53,7 +53,7 @@ site-accepted site h =
     }
 
 -- No object of it has the number NONE.
-real-number : (k i : ℕ) (ss : List (List ℕ)) → all inRange ss ≡ true → missing (findIn (isAt k i) ss) ≡ false → eqb i NONE ≡ false
+pub real-number : (k i : ℕ) (ss : List (List ℕ)) → all inRange ss ≡ true → missing (findIn (isAt k i) ss) ≡ false → eqb i NONE ≡ false
 unfolding inRange
 real-number k i ss a g =
     let s = findIn (isAt k i) ss in

@@ -1,24 +1,27 @@
 -- Wrong codes: a credential's wrong tries and disable after every list of runs from fresh, and the wrong tries that a grant finds.
 use Prim.Native.Nat.{ℕ, _+_}
 use native.Mathlib.Omega.{arith}
-use mathlib.Core.Path.{_≡_, refl, sym, _∙_, ap, ap₂}
+use mathlib.Core.Path.{_≡_, refl, sym, _∙_, ap, ap₂, subst}
 use mathlib.Core.List.{List, [], _∷_, _++_, map}
-use mathlib.Core.Bool.{Bool, true, false, not, _&&_, _||_, and-false, and-true, false≢true}
+use mathlib.Core.Bool.{Bool, true, false, not, _&&_, _||_, and-false, and-true, false≢true, true≢false}
 use lib.Dec.{ltb, leb, eqb}
-use borrow.Author.Tests.{eqb-true, leb-false, lt-ltb, ltb-true}
+use lib.ListN.{drop, getD}
+use borrow.Author.Tests.{eqb-true, eqb-false, leb-false, lt-ltb}
+use Rattle.octets.specs.Octets.{field}
 use Rattle.model.specs.Words.{if_then_else_, missing}
 use Rattle.model.specs.Numbers as n
 use Rattle.model.specs.Numbers.{NONE}
 use Rattle.model.specs.Site.{records, pointOf, credentialOf, findIn}
-use Rattle.model.specs.State.{Pair, Panel, sites, find, panel, credentialStateOf, freshWith, freshCredential}
+use Rattle.model.specs.State.{Pair, Panel, sites, find, panel, freshWith, freshCredential, belowMost, wellFormed}
 use Rattle.model.specs.Entry.{entryOf, answerBytes, operationOf, objectKind, inForm}
 use Rattle.model.specs.Checks.{eventOf}
 use Rattle.model.specs.Effects.{named, isWrongTry, wrongTriesWith, reachesMost, wrongTriesAfter, disableReached, credentialAfter, answerWith, outcomeWith, outcomeOf}
 use Rattle.model.specs.Step.{noCredential, unchanged, refuse, situationOf, rulesAt, factorOutcome, countOutcome, adjusted, adjustOutcome, disableAfter, disableOutcome, locks, serviceOutcome, workedOutcome, entryOutcome, apply, panels, after, answers}
-use Rattle.model.specs.Lists.{Worked, History}
+use Rattle.model.specs.Calls.{isWorked, checkState, runReturned, runJournal}
+use Rattle.model.specs.Lists.{Run, runOn, Worked, workedBy, workedIn}
 use Rattle.model.specs.DayPasses.{isGrantOf}
 use Rattle.model.specs.WrongTries.{isTryOf, setsDisable, isDisableOf, Tried, tried, triedOnce, triedBy, triedAfter, mostTries, triedOf, triesIn, triesSince}
-use Rattle.model.specs.Demands.{WrongTries}
+use Rattle.model.specs.Demands.{WrongTries, GrantBelowMost}
 use Rattle.model.specs.declared.Credential.{Credential}
 use Rattle.model.specs.declared.Situation.{Situation}
 use Rattle.model.specs.declared.Entry.{Entry}
@@ -27,10 +30,12 @@ use Rattle.model.specs.declared.Outcome.{Outcome}
 use Rattle.model.specs.declared.CredentialState.{CredentialState}
 use Rattle.model.specs.declared.Operation.{Operation}
 use Rattle.model.specs.declared.Operation.the-variants.{Factor, SetCount, AdjustCount, SetDisable, SetService, Unknown}
-use Rattle.model.proofs.Laws.{if-holds, There, sites-apply}
+use Rattle.model.proofs.Laws.{if-holds, There, find-in, sites-apply}
 use Rattle.model.proofs.RoundTrip.{event-back, refusal-back, credential-named-back}
-use Rattle.model.proofs.Flat.{freshPanel, sites-fresh}
-use Rattle.model.proofs.Runs.{object-found, object-real, object-there, workedAt, allEntries, worked-list}
+use Rattle.model.proofs.Flat.{freshPanel, sites-fresh, sites-panel}
+use Rattle.model.proofs.Runs.{real-number, worked-through, site-accepted, object-found, object-real, object-there, workedAt, entriesIn, list-worked, allEntries, worked-list}
+use Rattle.model.proofs.Well.{credential-found}
+use Rattle.model.proofs.KeptWell.{Taken, state-taken}
 use Rattle.model.proofs.Outcomes.{entry-holds}
 use Rattle.model.proofs.Granted.{granted-enabled}
 use Rattle.model.proofs.Credentials.{isCredential, held, heldBy, held-apply, grants, credential-read, named-number, state-read, held-fresh, state-left}
@@ -117,7 +122,7 @@ module _ (c : ℕ) (not-none : eqb c NONE ≡ false) (most : ℕ) (e : Entry) wh
       go true p true q false r =
           let k = same p in
           record { left = rw (p, q, r) (after-grant v x (eqb-true x 1 q) ∙ ap (λ (t : CredentialState). tried 0 (t .disable)) (k .0)); enabled = λ g. enabled p q }
-      go true p false q true r = record { left = let z = eqb-true x 0 r in simp (p, z, and-false); enabled = λ g. absurd (false≢true (rw q at g)) }
+      go true p false q true r = record { left = let z = eqb-true x 0 r in simp (z, and-false); enabled = λ g. absurd (false≢true (rw q at g)) }
       go true p false q false r =
           let k = same p in
           record {
@@ -174,6 +179,11 @@ module _ (c : ℕ) (not-none : eqb c NONE ≡ false) (most : ℕ) (e : Entry) wh
 
 -- ── a list of entries
 
+-- A list with an element is not empty.
+not-empty : (before later : List Worked) (w : Worked) → [] ≡ before ++ w ∷ later → true ≡ false
+not-empty [] later w s = cc
+not-empty (x ∷ before) later w s = cc
+
 module _ (c : ℕ) (not-none : eqb c NONE ≡ false) (most : ℕ) where
   -- Wrong tries and disable after any list of entries.
   tried-entries : (bs : List (List ℕ)) (ps : Panel) → There n.access-credential c ps →
@@ -188,6 +198,60 @@ module _ (c : ℕ) (not-none : eqb c NONE ≡ false) (most : ℕ) where
       = rw (held-apply c not-none o ps g, tried-answer most c ps b (o .answer) (triedIn (held c ps))) (tries-entry c not-none most e ps m .left) in
       tried-entries bs (apply o ps) (rw sites-apply g) (rw sites-apply m) ∙ ap (λ t. triedAfter most c t (workedAt (apply o ps) bs)) l
 
+-- ── the wrong tries that a grant finds
+
+-- Unless it is locked out, its wrong tries are those since they were last zeroed, fewer than the most.
+Below : ℕ → ℕ → Tried → Type 0
+Below most since t = eqb (t .disable) n.disable-lockout ≡ false → (t .tries ≡ since) × (ltb since most ≡ true)
+
+-- Those since they were last zeroed, after one entry.
+abbrev sinceWith : ℕ → Operation → Entry → Answer → ℕ → ℕ
+sinceWith c o e a since = if disables c o e a || grants c a then 0 else if misses c a then since + 1 else since
+
+below-next : (c most : ℕ) → eqb most 0 ≡ false → (o : Operation) (e : Entry) (a : Answer) (since : ℕ) (t : Tried) → Below most since t →
+    Below most (sinceWith c o e a since) (triedWith most c o e a t)
+unfolding Below triedWith triedOnce
+below-next c most set o e a since t h = rw set (go (disables c o e a) (grants c a) (misses c a) (leb most (t .tries + 1)) refl)
+  where
+    zero-below : ltb 0 most ≡ true
+    zero-below = lt-ltb 0 most (let z = eqb-false most 0 set in omega arith)
+
+    go : (d g m r : Bool) → leb most (t .tries + 1) ≡ r →
+        let u =
+            if d then tried 0 (e .argument) else
+            if g then tried 0 (t .disable) else
+            if m then (if r then tried 0 n.disable-lockout else tried (t .tries + 1) (t .disable)) else
+            t in
+        let k = if d || g then 0 else if m then since + 1 else since in
+        eqb (u .disable) n.disable-lockout ≡ false → (u .tries ≡ k) × (ltb k most ≡ true)
+    go true g m r l f = (refl, zero-below)
+    go false true m r l f = (refl, zero-below)
+    go false false true true l f = absurd (true≢false f)
+    go false false true false l f =
+        let b = h f .0 in
+        (rw b, rw (← b) (lt-ltb (t .tries + 1) most (leb-false most (t .tries + 1) l)))
+    go false false false r l f = h f
+
+module _ (c : ℕ) (not-none : eqb c NONE ≡ false) (most : ℕ) where
+  -- The entries before a grant, in any list of entries.
+  grant-finds : eqb most 0 ≡ false → (bs : List (List ℕ)) (ps : Panel) (since : ℕ) → There n.access-credential c ps →
+      credentialOf (findIn (isCredential c) (sites ps)) .«most_wrong_tries» ≡ most → Below most since (triedIn (held c ps)) →
+      (before later : List Worked) (w : Worked) → workedAt ps bs ≡ before ++ w ∷ later → isGrantOf c w ≡ true →
+      ltb (triesSince c since before) most ≡ true
+  unfolding workedAt panels answers triesSince isGrantOf isTryOf isDisableOf Below
+  grant-finds set [] ps since g m h before later w s k = absurd (true≢false (not-empty before later w s))
+  grant-finds set (b ∷ bs) ps since g m h [] later w s k =
+      let o = entryOutcome ps (entryOf b) in
+      let a = rw (event-back (o .answer), credential-named-back (o .answer)) at (ap (λ ws. isGrantOf c (getD ws 0 w)) s ∙ k) in
+      h (tries-entry c not-none most (entryOf b) ps m .enabled a) .1
+  grant-finds set (b ∷ bs) ps since g m h (x ∷ before) later w s k =
+      let e = entryOf b in
+      let o = entryOutcome ps e in
+      let left = ap triedIn (held-apply c not-none o ps g) ∙ tries-entry c not-none most e ps m .left in
+      let next = subst (Below most (sinceWith c (operationOf (e .operation)) e (o .answer) since)) (sym left) (below-next c most set _ e (o .answer) since _ h) in
+      rw (← ap (λ ws. getD ws 0 x) s, event-back (o .answer), refusal-back (o .answer), credential-named-back (o .answer))
+      (grant-finds set bs (apply o ps) _ (rw sites-apply g) (rw sites-apply m) next before later w (ap (drop 1) s) k)
+
 -- ── lists of runs from fresh
 
 pub wrong-tries : WrongTries
@@ -197,3 +261,48 @@ wrong-tries h c x =
     let t = tried-entries c (object-real h n.access-credential c x) (mostTries c (h .site)) (allEntries h) (freshPanel ss) (object-there h n.access-credential c x) (rw (sites-fresh ss)) in
     let u = rw (held-fresh c ss (object-found h n.access-credential c x)) at t in
     rw (state-left h c, worked-list h) (ap (λ (k : Tried). k .tries) u, ap (λ (k : Tried). k .disable) u)
+
+-- ── lists of runs on any state
+
+-- Where the site or the state is turned back, no entry is worked.
+none-worked : (site : List ℕ) (rs : List Run) (state : List ℕ) → isWorked (checkState site state) ≡ false → workedIn site state rs ≡ []
+unfolding workedIn workedBy runOn runJournal runReturned
+none-worked site [] state h = refl
+none-worked site (r ∷ rs) state h = rw (h, h) (none-worked site rs state h)
+
+-- A credential that is not there has no most.
+no-most : (s : List ℕ) → missing s ≡ true → credentialOf s .«most_wrong_tries» ≡ 0
+unfolding credentialOf field
+no-most [] g = refl
+no-most (x ∷ s) g = cc
+
+-- In a well-formed state a credential's wrong tries are below its most.
+below-taken : (site state : List ℕ) (c : ℕ) → Taken site state → eqb (mostTries c site) 0 ≡ false →
+    Below (mostTries c site) (triesIn c site state) (triedIn (held c (panel site state)))
+unfolding Below mostTries triesIn held belowMost wellFormed find
+below-taken site state c t set f =
+    let b = rw (find-in, sites-panel site state, set) at (credential-found (records site) (panel site state) (t .well) c .tries) in
+    (refl, b)
+
+pub grant-below-most : GrantBelowMost
+unfolding GrantBelowMost
+grant-below-most site state rs c before later w s k = taken (isWorked (checkState site state)) refl
+  where
+    Finds : Type 0
+    Finds = eqb (mostTries c site) 0 || ltb (triesSince c (triesIn c site state) before) (mostTries c site) ≡ true
+
+    counted : Taken site state → missing (findIn (isCredential c) (records site)) ≡ false → (b : Bool) → eqb (mostTries c site) 0 ≡ b → b || ltb (triesSince c (triesIn c site state) before) (mostTries c site) ≡ true
+    counted t g true z = refl
+    counted t g false z =
+        let a = site-accepted site (t .site-accepts) in
+        grant-finds c (real-number n.access-credential c (records site) (a .in-range) g) (mostTries c site) z (entriesIn site state rs) (panel site state) (triesIn c site state)
+        (rw (sites-panel site state) g) (unfold mostTries in rw (sites-panel site state)) (below-taken site state c t z) before later w
+        (sym (list-worked site (a .whole-records) rs state (t .as-long)) ∙ s) k
+
+    there : Taken site state → (b : Bool) → missing (findIn (isCredential c) (records site)) ≡ b → Finds
+    there t true g = unfold mostTries in rw (no-most _ g)
+    there t false g = counted t g _ refl
+
+    taken : (b : Bool) → isWorked (checkState site state) ≡ b → Finds
+    taken true v = there (state-taken site state (worked-through _ v)) _ refl
+    taken false v = absurd (true≢false (not-empty before later w (sym (none-worked site rs state v) ∙ s)))
