@@ -69,6 +69,7 @@ impl<'a, L: Lookup> FactorRead<'a, L> {
             Continue(()) => event::GRANTED,
         };
         self.count_failure(event);
+        self.count_wrong_try(event);
         Answer {
             event,
             tag,
@@ -364,6 +365,7 @@ impl<'a, L: Lookup> FactorRead<'a, L> {
         } else if zone_from != NONE {
             put32(held, credential_state::ZONE, NONE);
         }
+        held[credential_state::WRONG_TRIES] = 0;
         spend(held, self.now);
     }
 
@@ -390,6 +392,25 @@ impl<'a, L: Lookup> FactorRead<'a, L> {
         held[point_state::LOCKOUT] = 1;
         put32(held, point_state::LOCK_TIME, now);
         self.marks |= mark::LOCKOUT_MAX_ATTEMPTS;
+    }
+
+    /// A wrong try of the credential waited for, where its most is set. At the most it is locked out.
+    #[inline]
+    fn count_wrong_try(&mut self, event: u16) {
+        let Some(index) = self.named.filter(|_| is_wrong_try(event)) else {
+            return;
+        };
+        let most = self.site.records[index][credential::MOST_WRONG_TRIES];
+        if most == 0 {
+            return;
+        }
+        let held = &mut self.state[index];
+        held[credential_state::WRONG_TRIES] += 1;
+        if held[credential_state::WRONG_TRIES] < most {
+            return;
+        }
+        held[credential_state::WRONG_TRIES] = 0;
+        held[credential_state::CREDENTIAL_DISABLE] = credential_disable::DISABLE_LOCKOUT;
     }
 
     /// Traces the credential named and writes its last use; hands back its instance or NONE. It
@@ -423,10 +444,16 @@ impl<'a, L: Lookup> FactorRead<'a, L> {
 fn is_failure(event: u16) -> bool {
     matches!(
         event,
-        event::DENIED_UNKNOWN_CREDENTIAL
-            | event::DENIED_AUTHENTICATION_FACTOR_TIMEOUT
-            | event::DENIED_INCORRECT_AUTHENTICATION_FACTOR
-            | event::DENIED_AUTHENTICATION_FACTOR_ERROR
+        event::DENIED_UNKNOWN_CREDENTIAL | event::DENIED_AUTHENTICATION_FACTOR_ERROR
+    )
+}
+
+/// Events of a wait alone.
+#[inline]
+fn is_wrong_try(event: u16) -> bool {
+    matches!(
+        event,
+        event::DENIED_AUTHENTICATION_FACTOR_TIMEOUT | event::DENIED_INCORRECT_AUTHENTICATION_FACTOR
     )
 }
 

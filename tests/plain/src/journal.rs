@@ -64,7 +64,9 @@ fn work<L: Lookup>(site: &Site<L>, state: &mut [Record], entry: &Entry) -> Answe
         operation::SET_COUNT => set_count(&mut state[index], amount),
         operation::ADJUST_COUNT => adjust_count(&mut state[index], amount as i32),
         operation::SET_DISABLE => {
-            state[index][credential_state::CREDENTIAL_DISABLE] = argument;
+            let held = &mut state[index];
+            held[credential_state::CREDENTIAL_DISABLE] = argument;
+            held[credential_state::WRONG_TRIES] = 0;
             Answer {
                 credential: instance,
                 ..Answer::EMPTY

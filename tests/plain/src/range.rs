@@ -74,7 +74,7 @@ fn location_in_range(record: &Record) -> bool {
 
 #[inline(always)]
 fn credential_in_range(record: &Record) -> bool {
-    let spare = unnamed(record, credential_flag::NAMED) | u64::from(get16(record, 22));
+    let spare = unnamed(record, credential_flag::NAMED) | u64::from(record[23]);
     let rights = [
         get32(record, credential::FIRST_RIGHTS),
         get32(record, credential::SECOND_RIGHTS),

@@ -51,7 +51,7 @@ pub fn well_formed<L: Lookup>(site: &Site<L>, state: &[Record]) -> bool {
     pairs.all(|(record, part)| match record[record::KIND] {
         kind::ZONE => u64::from(half(part, 4)) | word(part, 8) | rest(part) == 0,
         kind::POINT => point_well_formed(site, record, part),
-        kind::CREDENTIAL => credential_well_formed(site, part),
+        kind::CREDENTIAL => credential_well_formed(site, record, part),
         _ => word(part, 0) | word(part, 8) | rest(part) == 0,
     })
 }
@@ -77,9 +77,11 @@ fn point_well_formed<L: Lookup>(site: &Site<L>, record: &Record, part: &Record) 
 }
 
 #[inline]
-fn credential_well_formed<L: Lookup>(site: &Site<L>, part: &Record) -> bool {
-    let spare = u32::from(part[19]) | half(part, 28);
-    spare == 0
+fn credential_well_formed<L: Lookup>(site: &Site<L>, record: &Record, part: &Record) -> bool {
+    let tries = part[credential_state::WRONG_TRIES];
+    // Wrong tries are below the most, or 0 where it is unset.
+    half(part, 28) == 0
+        && (tries == 0 || tries < record[credential::MOST_WRONG_TRIES])
         && part[credential_state::CREDENTIAL_DISABLE] <= credential_disable::DISABLE_LOCKOUT
         && site.none_or_exists(kind::ZONE, get32(part, credential_state::ZONE))
         && site.none_or_exists(

@@ -156,6 +156,7 @@ pub struct Credential {
     pub uses: u16,
     pub days: u16,
     pub absentee_limit: u16,
+    pub most_wrong_tries: u8,
     pub rights: [u32; 2],
 }
 
@@ -171,6 +172,7 @@ impl Credential {
             uses: UNLIMITED,
             days: UNLIMITED,
             absentee_limit: UNLIMITED,
+            most_wrong_tries: 0,
             rights: [NONE, NONE],
         }
     }
@@ -188,6 +190,7 @@ impl Credential {
         put16(&mut bytes, credential::USES_REMAINING, self.uses);
         put16(&mut bytes, credential::DAYS_REMAINING, self.days);
         put16(&mut bytes, credential::ABSENTEE_LIMIT, self.absentee_limit);
+        bytes[credential::MOST_WRONG_TRIES] = self.most_wrong_tries;
         put32(&mut bytes, credential::FIRST_RIGHTS, self.rights[0]);
         put32(&mut bytes, credential::SECOND_RIGHTS, self.rights[1]);
         bytes

@@ -81,6 +81,7 @@ impl<'a> FactorRead<'a> {
             Continue(credential) => self.grant(credential),
         };
         self.count_failure(event);
+        self.count_wrong_try(event);
         self.record_use(event);
         Answer {
             event,
@@ -328,6 +329,8 @@ impl<'a> FactorRead<'a> {
         move_credential(held, &self.point, self.now);
         spend_use(held);
         spend_day(held, self.now);
+        // Of the count: "a grant or operation 4 also zeroes it".
+        held[credential_state::WRONG_TRIES] = 0;
         // After the day, which asks for the grant before this one.
         put32(held, credential_state::LAST_GRANT_TIME, self.now);
         event::GRANTED
@@ -376,6 +379,27 @@ impl<'a> FactorRead<'a> {
         point[point_state::LOCKOUT] = 1;
         put32(point, point_state::LOCK_TIME, now);
         self.marks |= mark::LOCKOUT_MAX_ATTEMPTS;
+    }
+
+    /// "Failures 131 and 132 shall be counted for each credential, not on the point": counts a wrong
+    /// try of the credential waited for, where its most is set, "without a window". "Reaching the most
+    /// sets the disable to LOCKOUT and zeroes the count, without mark 16".
+    fn count_wrong_try(&mut self, event: u16) {
+        let Some(index) = self.credential.filter(|_| is_wrong_try(event)) else {
+            return;
+        };
+        let most = CredentialRecord(record_at(self.site, index)).most_wrong_tries();
+        if u32::from(most) == UNSET {
+            return;
+        }
+        let held = state_at_mut(self.state, index);
+        let tries = held[credential_state::WRONG_TRIES] + 1;
+        if tries < most {
+            held[credential_state::WRONG_TRIES] = tries;
+            return;
+        }
+        held[credential_state::WRONG_TRIES] = 0;
+        held[credential_state::CREDENTIAL_DISABLE] = credential_disable::DISABLE_LOCKOUT;
     }
 
     /// Marks the trace and writes last use, event and point of the credential named. It comes
@@ -451,13 +475,20 @@ fn factor_event(disable: u8) -> Option<u16> {
     }
 }
 
+/// "129 and 148 stay on the point."
 fn is_failure(event: u16) -> bool {
     matches!(
         event,
-        event::DENIED_UNKNOWN_CREDENTIAL
-            | event::DENIED_AUTHENTICATION_FACTOR_TIMEOUT
-            | event::DENIED_INCORRECT_AUTHENTICATION_FACTOR
-            | event::DENIED_AUTHENTICATION_FACTOR_ERROR
+        event::DENIED_UNKNOWN_CREDENTIAL | event::DENIED_AUTHENTICATION_FACTOR_ERROR
+    )
+}
+
+/// The events of a second factor that came too late or was wrong. Only a wait leads to them, so that
+/// the answer names the credential waited for.
+fn is_wrong_try(event: u16) -> bool {
+    matches!(
+        event,
+        event::DENIED_AUTHENTICATION_FACTOR_TIMEOUT | event::DENIED_INCORRECT_AUTHENTICATION_FACTOR
     )
 }
 

@@ -58,7 +58,7 @@ fn work_entry(site: &[u8], state: &mut [u8], bytes: &[u8]) -> Answer {
         Action::SetCount { amount } => set_count(state_at_mut(state, index), amount),
         Action::AdjustCount { amount } => adjust_count(state_at_mut(state, index), amount),
         Action::SetDisable { disable } => {
-            state_at_mut(state, index)[credential_state::CREDENTIAL_DISABLE] = disable;
+            set_disable(state_at_mut(state, index), disable);
             Answer {
                 credential: entry.instance,
                 ..Answer::EMPTY
@@ -83,6 +83,12 @@ fn adjust_count(zone: &mut [u8], amount: i32) -> Answer {
         return Answer::refused(refusal::ENTRY_COUNT);
     }
     set_count(zone, adjusted as u32)
+}
+
+/// Operation 4. It "also zeroes" the wrong tries, whatever the disable.
+fn set_disable(credential: &mut [u8], disable: u8) {
+    credential[credential_state::CREDENTIAL_DISABLE] = disable;
+    credential[credential_state::WRONG_TRIES] = 0;
 }
 
 /// Operation 5. It works at a point out of service too.

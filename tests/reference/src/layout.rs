@@ -43,6 +43,7 @@ pub mod credential {
     pub const USES_REMAINING: usize = 16;
     pub const DAYS_REMAINING: usize = 18;
     pub const ABSENTEE_LIMIT: usize = 20;
+    pub const MOST_WRONG_TRIES: usize = 22;
     pub const FIRST_RIGHTS: usize = 24;
     pub const SECOND_RIGHTS: usize = 28;
 }
@@ -76,6 +77,7 @@ pub mod credential_state {
     pub const ENTERED: usize = 12;
     pub const LAST_ACCESS_EVENT: usize = 16;
     pub const CREDENTIAL_DISABLE: usize = 18;
+    pub const WRONG_TRIES: usize = 19;
     pub const LAST_ACCESS_POINT: usize = 20;
     pub const LAST_GRANT_TIME: usize = 24;
 }

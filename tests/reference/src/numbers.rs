@@ -6,7 +6,7 @@ pub const NONE: u32 = 4_194_303;
 pub const NEVER: u32 = 4_294_967_295;
 /// Uses and days without a limit, and an absent absentee limit.
 pub const UNLIMITED: u16 = 65_535;
-/// Limits, timeouts, windows and Max_Failed_Attempts that are not set.
+/// Limits, timeouts, windows, Max_Failed_Attempts and most wrong tries that are not set.
 pub const UNSET: u32 = 0;
 /// The highest Occupancy_Count that four bytes hold.
 pub const MOST_COUNT: u32 = u32::MAX;

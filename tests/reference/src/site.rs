@@ -234,6 +234,11 @@ impl CredentialRecord<'_> {
         get16(self.0, credential::ABSENTEE_LIMIT)
     }
 
+    /// The most wrong tries of a second factor.
+    pub fn most_wrong_tries(&self) -> u8 {
+        self.0[credential::MOST_WRONG_TRIES]
+    }
+
     /// The two rights numbers, each real or NONE.
     pub fn rights(&self) -> [u32; 2] {
         [
@@ -247,7 +252,7 @@ impl CredentialRecord<'_> {
             && self.disable() <= credential_disable::DISABLE_LOCKOUT
             && self.threat_authority() <= MOST_THREAT_LEVEL
             && is_real(instance_of(self.0))
-            && all_zero(&self.0[22..24])
+            && self.0[23] == 0
             && self.rights().iter().all(|&rights| rights <= NONE)
     }
 }

@@ -62,7 +62,7 @@ fn record_well_formed(site: &[u8], record: &[u8], part: &[u8]) -> bool {
     match kind_of(record) {
         kind::ZONE => all_zero(&part[4..]),
         kind::POINT => point_well_formed(site, &PointRecord(record), part),
-        kind::CREDENTIAL => credential_well_formed(site, part),
+        kind::CREDENTIAL => credential_well_formed(site, &CredentialRecord(record), part),
         _ => all_zero(part),
     }
 }
@@ -80,10 +80,12 @@ fn point_well_formed(site: &[u8], point: &PointRecord, part: &[u8]) -> bool {
         && all_zero(&part[24..])
 }
 
-fn credential_well_formed(site: &[u8], part: &[u8]) -> bool {
+fn credential_well_formed(site: &[u8], credential: &CredentialRecord, part: &[u8]) -> bool {
+    let tries = part[credential_state::WRONG_TRIES];
     none_or_exists(site, kind::ZONE, get32(part, credential_state::ZONE))
         && part[credential_state::CREDENTIAL_DISABLE] <= credential_disable::DISABLE_LOCKOUT
-        && part[19] == 0
+        // "Well formed then includes that count below its most, 0 if unset."
+        && (tries == 0 || tries < credential.most_wrong_tries())
         && none_or_exists(
             site,
             kind::POINT,

@@ -1,19 +1,20 @@
 //! The generated cases reach every event, mark and refusal of document 01 and, of document 02, each
-//! part of windows across midnight and each kind of day passes, which they tell from their misreadings;
-//! and the generators of sites and states keep what they promise.
+//! part of windows across midnight and each kind of day passes and of wrong tries, which they tell from
+//! their misreadings; and the generators of sites and states keep what they promise.
 
 mod days;
+mod tries;
 mod windows;
 
 use reference::bytes::{get16, put16};
 use reference::generate::clock::base_time;
-use reference::generate::damage::damage_last_grant;
+use reference::generate::damage::{damage_last_grant, damage_wrong_tries};
 use reference::generate::{case, site, state, Random};
 use reference::journal::run_journal;
-use reference::layout::{credential_state, rule};
+use reference::layout::{credential, credential_state, rule};
 use reference::numbers::{event, kind, refusal, MINUTES_PER_DAY, RECORD_LENGTH};
 use reference::occurrences::{assert_often, Occurrences, REFUSALS};
-use reference::site::{check_site, kind_of, records};
+use reference::site::{check_site, kind_of, records, CredentialRecord};
 use reference::state::{fresh_state, well_formed};
 use std::collections::BTreeMap;
 use std::fmt::Debug;
@@ -224,6 +225,149 @@ fn each_misreading_of_day_passes_leaves_other_days() {
     print_rows(&times);
     let wanted = days::MISREADINGS.map(|(misreading, _)| misreading);
     assert_often("misreading", &times, &wanted, FEWEST_READS);
+}
+
+#[test]
+fn each_kind_of_wrong_tries_occurs_often() {
+    let mut times = BTreeMap::new();
+    tries::see_generated_entries(CASES, |worked| {
+        for (kind, holds) in tries::KINDS {
+            *times.entry(kind).or_default() += usize::from(holds(&worked.found));
+        }
+    });
+    print_rows(&times);
+    let wanted = tries::KINDS.map(|(kind, _)| kind);
+    assert_often("entries", &times, &wanted, FEWEST_READS);
+}
+
+#[test]
+fn each_misreading_of_wrong_tries_leaves_another_state_or_mark() {
+    let mut times = BTreeMap::new();
+    tries::see_generated_entries(CASES, |worked| {
+        assert_eq!(tries::TEXT.left(&worked.found), worked.left);
+        for (misreading, reading) in tries::MISREADINGS {
+            let is_other = reading.left(&worked.found) != worked.left;
+            *times.entry(misreading).or_default() += usize::from(is_other);
+        }
+    });
+    print_rows(&times);
+    let wanted = tries::MISREADINGS.map(|(misreading, _)| misreading);
+    assert_often("misreading", &times, &wanted, FEWEST_READS);
+}
+
+/// Where a count stands to its most; nothing where that allows it.
+fn beyond_the_most(tries: u8, most: u8) -> Option<&'static str> {
+    if tries == 0 || tries < most {
+        return None;
+    }
+    Some(match most {
+        0 => "above 0, most unset",
+        _ if tries == most => "at the most",
+        _ => "above the most",
+    })
+}
+
+/// The state with no wrong tries, and how those that the site does not allow stood to their mosts.
+fn without_wrong_tries(site: &[u8], state: &[u8]) -> (Vec<u8>, Vec<&'static str>) {
+    let mut state = state.to_vec();
+    let mut beyond = Vec::new();
+    for (record, part) in records(site).zip(state.chunks_exact_mut(RECORD_LENGTH)) {
+        if kind_of(record) == kind::CREDENTIAL {
+            let tries = std::mem::take(&mut part[credential_state::WRONG_TRIES]);
+            let most = CredentialRecord(record).most_wrong_tries();
+            beyond.extend(beyond_the_most(tries, most));
+        }
+    }
+    (state, beyond)
+}
+
+#[test]
+fn wrong_tries_are_often_all_that_is_not_well_formed() {
+    let mut times = BTreeMap::new();
+    let mut random = Random::new(19);
+    for _ in 0..CASES {
+        let mut case = case(&mut random);
+        let (mended, beyond) = without_wrong_tries(&case.site, &case.state);
+        let returned = run_journal(
+            &case.site,
+            &mut case.state,
+            &case.journal,
+            &mut case.answers,
+        );
+        if returned == refusal::STATE_FORM && well_formed(&case.site, &mended) {
+            for standing in beyond {
+                *times.entry(standing).or_default() += 1;
+            }
+        }
+    }
+    print_rows(&times);
+    let wanted = ["above 0, most unset", "at the most", "above the most"];
+    assert_often("state", &times, &wanted, FEWEST);
+}
+
+/// Other wrong tries are well formed below the most and nowhere else.
+#[test]
+fn damage_to_wrong_tries_is_often_well_formed_and_often_not() {
+    let mut times = BTreeMap::new();
+    let mut random = Random::new(20);
+    for _ in 0..CASES / 4 {
+        let base = base_time(&mut random);
+        let site = site(&mut random, base);
+        let before = state(&mut random, base, &site);
+        let mut after = before.clone();
+        damage_wrong_tries(&mut random, &site, &mut after);
+        if after == before {
+            continue;
+        }
+        let (_, beyond) = without_wrong_tries(&site, &after);
+        assert_eq!(well_formed(&site, &after), beyond.is_empty());
+        let damaged = beyond.first().unwrap_or(&"below the most");
+        *times.entry(*damaged).or_default() += 1;
+    }
+    print_rows(&times);
+    let beyond = ["above 0, most unset", "at the most", "above the most"];
+    let wanted = [&beyond[..], &["below the most"]].concat();
+    assert_often("damage", &times, &wanted, FEWEST);
+}
+
+/// Accepted sites have every named most and others; the byte behind it is often all that is out of
+/// range.
+#[test]
+fn accepted_sites_have_any_most_wrong_tries_and_no_byte_behind_it() {
+    let mut mosts = BTreeMap::new();
+    let mut spare = 0;
+    let mut random = Random::new(22);
+    for _ in 0..CASES {
+        let site = case(&mut random).site;
+        let mended = without_byte_behind_most(&site);
+        let checked = check_site(&site);
+        let is_mended = check_site(&mended) != refusal::SITE_FIELD;
+        spare += usize::from(checked == refusal::SITE_FIELD && is_mended);
+        let accepted = records(&site).filter(|_| checked == refusal::ACCEPTED);
+        for record in accepted.filter(|record| kind_of(record) == kind::CREDENTIAL) {
+            let most = CredentialRecord(record).most_wrong_tries();
+            let named = NAMED_MOSTS.contains(&most).then_some(most);
+            *mosts.entry(named).or_default() += 1;
+        }
+    }
+    print_rows(&mosts);
+    println!("refused for byte 23 alone: {spare}");
+    assert!(spare >= FEWEST, "{spare} sites");
+    let wanted = [&NAMED_MOSTS.map(Some)[..], &[None]].concat();
+    assert_often("most", &mosts, &wanted, FEWEST);
+}
+
+/// The mosts that are counted one by one.
+const NAMED_MOSTS: [u8; 6] = [0, 1, 2, 3, 4, 255];
+
+fn without_byte_behind_most(site: &[u8]) -> Vec<u8> {
+    let mut site = site.to_vec();
+    for record in site.chunks_exact_mut(RECORD_LENGTH) {
+        if kind_of(record) == kind::CREDENTIAL {
+            record[credential::MOST_WRONG_TRIES + 1] = 0;
+        }
+    }
+    site
 }
 
 /// The bytes of a credential's state behind its last grant.

@@ -4,8 +4,9 @@ use reference::build::{Credential, EntryFields, Factor, Panel, Point, Rule, Zone
 use reference::bytes::get32;
 use reference::layout::{credential_state, point_state};
 use reference::numbers::{
-    authorization_mode, credential_flag, event, factor_role, factors_wanted, format, kind, mark,
-    passback_mode, point_flag, rule_flag, zone_flag, MOST_COUNT, NEVER, NONE, SECONDS_PER_MINUTE,
+    authorization_mode, credential_disable, credential_flag, event, factor_role, factors_wanted,
+    format, kind, mark, passback_mode, point_flag, rule_flag, zone_flag, MOST_COUNT, NEVER, NONE,
+    SECONDS_PER_MINUTE,
 };
 use reference::one_point::{badge, enter_code, open_point, CARD, CODE};
 use std::cmp::Ordering;
@@ -26,13 +27,17 @@ fn two_factor_point() -> Point {
 
 /// Credential 5 with a card and a code at the point.
 fn panel(point: Point, flags: u8) -> Panel {
+    let credential = Credential {
+        flags,
+        ..Credential::new(5)
+    };
+    panel_of(point, credential)
+}
+
+fn panel_of(point: Point, credential: Credential) -> Panel {
     Panel::fresh(&[
         point.record(),
-        Credential {
-            flags,
-            ..Credential::new(5)
-        }
-        .record(),
+        credential.record(),
         Factor::new(5, CARD).record(),
         Factor {
             role: factor_role::CONFIRMING,
@@ -110,6 +115,58 @@ fn failures_lock_the_point_and_the_lockout_relinquishes() {
     assert_eq!(relinquished.event, event::NONE);
     let marks = mark::AUTHENTICATION_FACTOR_READ | mark::LOCKOUT_RELINQUISHED;
     assert_eq!(relinquished.marks, marks);
+}
+
+/// Failures of the point, wrong tries and disable of the credential.
+fn counts(panel: &Panel) -> (u8, u8, u8) {
+    let point = panel.state_of(kind::POINT, 1);
+    let credential = panel.state_of(kind::CREDENTIAL, 5);
+    (
+        point[point_state::FAILED_ATTEMPTS],
+        credential[credential_state::WRONG_TRIES],
+        credential[credential_state::CREDENTIAL_DISABLE],
+    )
+}
+
+/// A second factor that is wrong, then one that is late.
+fn wrong_codes(time: u32) -> [EntryFields; 4] {
+    [
+        badge(time),
+        badge(time + 1),
+        badge(time + 2),
+        enter_code(time + 33),
+    ]
+}
+
+#[test]
+fn wrong_and_late_codes_are_no_failures_of_the_point() {
+    let mut panel = panel(two_factor_point(), 0);
+    for time in [100, 200, 300] {
+        let answers = panel.run(&wrong_codes(time));
+        let events: Vec<u16> = answers.iter().map(|answer| answer.event).collect();
+        assert_eq!(events, [0, 132, 0, 131]);
+        assert!(answers.iter().all(|answer| answer.marks == 1));
+        assert_eq!(counts(&panel), (0, 0, credential_disable::NONE));
+    }
+}
+
+#[test]
+fn wrong_and_late_codes_lock_the_credential_out_at_its_most() {
+    let credential = Credential {
+        most_wrong_tries: 3,
+        ..Credential::new(5)
+    };
+    let mut panel = panel_of(two_factor_point(), credential);
+    panel.run(&wrong_codes(100));
+    assert_eq!(counts(&panel), (0, 2, credential_disable::NONE));
+    panel.work(badge(200));
+    let third = panel.work(badge(201));
+    assert_eq!(third.event, event::DENIED_INCORRECT_AUTHENTICATION_FACTOR);
+    assert_eq!(third.marks, mark::AUTHENTICATION_FACTOR_READ);
+    assert_eq!(counts(&panel), (0, 0, credential_disable::DISABLE_LOCKOUT));
+    panel.work(badge(210));
+    let right = panel.work(enter_code(211));
+    assert_eq!(right.event, event::DENIED_CREDENTIAL_LOCKOUT);
 }
 
 #[test]

@@ -2,13 +2,13 @@
 //! state records, whatever stands beside it in the site and in the journals.
 
 use reference::build::{Record, Rule};
-use reference::bytes::get32;
+use reference::bytes::{get16, get32};
 use reference::entry::entries;
 use reference::generate::clock::base_time;
 use reference::generate::sites::{site_from, Pool, Sizes};
 use reference::generate::{journal, site, Random};
 use reference::journal::run_journal;
-use reference::layout::entry;
+use reference::layout::{answer, entry};
 use reference::numbers::{
     event, format, kind, location_kind, operation, refusal, rule_flag, ANSWER_LENGTH, ENTRY_LENGTH,
     RECORD_LENGTH,
@@ -47,10 +47,19 @@ impl Mixed {
 
     /// The west wing's units of bytes that belong to these units one by one.
     fn west_of(&self, bytes: &[u8], unit: usize) -> Vec<u8> {
+        self.units_of(bytes, unit, true)
+    }
+
+    /// As `west_of`, for the east wing.
+    fn east_of(&self, bytes: &[u8], unit: usize) -> Vec<u8> {
+        self.units_of(bytes, unit, false)
+    }
+
+    fn units_of(&self, bytes: &[u8], unit: usize, west: bool) -> Vec<u8> {
         bytes
             .chunks_exact(unit)
             .zip(&self.west)
-            .filter(|(_, is_west)| **is_west)
+            .filter(|(_, is_west)| **is_west == west)
             .flat_map(|(part, _)| part.to_vec())
             .collect()
     }
@@ -113,29 +122,42 @@ fn run_list(random: &mut Random, site: &[u8], entries: &[u8]) -> (Vec<u8>, Vec<u
     (answers, state)
 }
 
-/// The west wing's answers and state records with some east wing beside it, whose grants are added
-/// up, so that an empty east wing is noticed.
+/// Grants and wrong tries, added up so that an empty wing is noticed.
+#[derive(Default)]
+struct Reached {
+    grants: usize,
+    wrong_tries: usize,
+}
+
+impl Reached {
+    fn add(&mut self, answers: &[u8]) {
+        self.grants += count(answers, &[event::GRANTED]);
+        self.wrong_tries += count(answers, &WRONG_TRIES);
+    }
+}
+
+/// The west wing's answers and state records with some east wing beside it.
 fn run_with_an_east_wing(
     random: &mut Random,
     base: u32,
     west: &[u8],
     west_entries: &[u8],
-    east_granted: &mut usize,
+    east_reached: &mut Reached,
 ) -> (Vec<u8>, Vec<u8>) {
     let east = east_site(random, base, west);
     let east_entries = east_journal(random, base, &east);
     let site = Mixed::new(random, west, &east, RECORD_LENGTH);
     let journal = Mixed::new(random, west_entries, &east_entries, ENTRY_LENGTH);
     let (answers, state) = run_list(random, &site.bytes, &journal.bytes);
+    east_reached.add(&journal.east_of(&answers, ANSWER_LENGTH));
     let west_answers = journal.west_of(&answers, ANSWER_LENGTH);
-    *east_granted += count_granted(&answers) - count_granted(&west_answers);
     (west_answers, site.west_of(&state, RECORD_LENGTH))
 }
 
 #[test]
 fn a_self_contained_part_does_not_depend_on_what_stands_beside_it() {
     let mut random = Random::new(31);
-    let (mut granted, mut east_granted) = (0, 0);
+    let (mut reached, mut east_reached) = (Reached::default(), Reached::default());
     for _ in 0..4_000 {
         let base = base_time(&mut random);
         let west = site(&mut random, base);
@@ -143,18 +165,28 @@ fn a_self_contained_part_does_not_depend_on_what_stands_beside_it() {
         let alone = run_list(&mut random, &west, &west_entries);
         for _ in 0..2 {
             let beside =
-                run_with_an_east_wing(&mut random, base, &west, &west_entries, &mut east_granted);
+                run_with_an_east_wing(&mut random, base, &west, &west_entries, &mut east_reached);
             assert_eq!(beside, alone);
         }
-        granted += count_granted(&alone.0);
+        reached.add(&alone.0);
     }
-    assert!(granted > 4_000, "{granted} grants in the west wing");
-    assert!(east_granted > 4_000, "{east_granted} grants beside it");
+    for (wing, reached) in [("west", reached), ("east", east_reached)] {
+        let (grants, wrong_tries) = (reached.grants, reached.wrong_tries);
+        println!("{wing}: {grants} grants, {wrong_tries} wrong tries");
+        assert!(grants > 4_000, "{wing}: {grants} grants");
+        assert!(wrong_tries > 500, "{wing}: {wrong_tries} wrong tries");
+    }
 }
 
-fn count_granted(answers: &[u8]) -> usize {
+/// The events that are counted for the credential waited for.
+const WRONG_TRIES: [u16; 2] = [
+    event::DENIED_AUTHENTICATION_FACTOR_TIMEOUT,
+    event::DENIED_INCORRECT_AUTHENTICATION_FACTOR,
+];
+
+fn count(answers: &[u8], events: &[u16]) -> usize {
     answers
         .chunks_exact(ANSWER_LENGTH)
-        .filter(|answer| answer[..2] == event::GRANTED.to_be_bytes())
+        .filter(|answer| events.contains(&get16(answer, answer::EVENT)))
         .count()
 }

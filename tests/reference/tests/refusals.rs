@@ -65,7 +65,7 @@ fn every_unnamed_byte_of_a_site_is_spare() {
         &[3, 20, 31],
         &[28, 31],
         &[16, 31],
-        &[22, 23],
+        &[23],
         &[1, 9, 15, 24, 31],
     ];
     for (record, offsets) in spare.iter().enumerate() {
@@ -73,6 +73,13 @@ fn every_unnamed_byte_of_a_site_is_spare() {
             let returned = check_site(&with_byte(record, offset, 1));
             assert_eq!(returned, refusal::SITE_FIELD, "{record} {offset}");
         }
+    }
+}
+
+#[test]
+fn the_most_wrong_tries_of_a_credential_may_be_any() {
+    for most in 0..=255 {
+        assert_eq!(check_site(&with_byte(3, 22, most)), refusal::ACCEPTED);
     }
 }
 
@@ -251,8 +258,29 @@ fn fields_of_a_state_out_of_range() {
     assert!(!well_formed_with(&[(96 + 18, 4)]), "a disable beyond it");
     let last_grant = [(96 + 24, 0), (96 + 25, 1), (96 + 26, 2), (96 + 27, 3)];
     assert!(well_formed_with(&last_grant), "any last grant");
-    for spare in [4, 31, 38, 39, 56, 63, 64, 95, 115, 124, 127, 128, 159] {
+    for spare in [4, 31, 38, 39, 56, 63, 64, 95, 124, 127, 128, 159] {
         assert!(!well_formed_with(&[(spare, 1)]), "spare byte {spare}");
+    }
+}
+
+#[test]
+fn wrong_tries_of_a_state_are_below_the_most_and_zero_where_it_is_unset() {
+    let [zone, point, rule, credential, factor] = records();
+    for most in [0, 1, 2, 3, 254, 255] {
+        let mut credential = credential;
+        credential[22] = most;
+        let mut panel = Panel::fresh(&[zone, point, rule, credential, factor]);
+        assert_eq!(panel.state[96 + 19], 0);
+        for tries in 0..=255 {
+            panel.state[96 + 19] = tries;
+            let is_sound = tries == 0 || tries < most;
+            let place = (most, tries);
+            assert_eq!(
+                well_formed(&panel.site, &panel.state),
+                is_sound,
+                "{place:?}"
+            );
+        }
     }
 }
 

@@ -1,7 +1,7 @@
 //! Whole cases: the input of one journal run.
 
 use super::clock::base_time;
-use super::damage::{answers_length, damage, damage_last_grant, overlong};
+use super::damage::{answers_length, damage, damage_last_grant, damage_wrong_tries, overlong};
 use super::random::Random;
 use super::{journals, sites, states};
 use crate::numbers::{
@@ -69,7 +69,7 @@ pub fn list_run(random: &mut Random, base: u32, site: &[u8], most: usize) -> (Ve
     (journal, vec![0; answers_size])
 }
 
-/// Damages a state in some of three ways, or in none.
+/// Damages a state in some of four ways, or in none.
 fn damage_state(random: &mut Random, site: &[u8], state: &mut Vec<u8>) {
     if random.sixteenths(3) {
         damage(random, state, RECORD_LENGTH);
@@ -79,6 +79,9 @@ fn damage_state(random: &mut Random, site: &[u8], state: &mut Vec<u8>) {
     }
     if random.sixteenths(3) {
         damage_last_grant(random, site, state);
+    }
+    if random.sixteenths(2) {
+        damage_wrong_tries(random, site, state);
     }
 }
 

@@ -67,6 +67,13 @@ pub fn next_visit(random: &mut Random, now: u32) -> u32 {
     time.min(LAST_TIME)
 }
 
+/// A time at which a wait since then has expired, or is in its last second.
+pub fn beside_timeout(random: &mut Random, since: u32, timeout: u32) -> u32 {
+    let later = random.pick(&[0, 1, 1, 60, SECONDS_PER_DAY]);
+    let time = since.saturating_add(timeout).saturating_add(later);
+    time.min(LAST_TIME)
+}
+
 /// The time of the entry after one at `now`: mostly a little later, at times much later or
 /// set back.
 pub fn next_time(random: &mut Random, base: u32, now: u32) -> u32 {

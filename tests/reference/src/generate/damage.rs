@@ -2,10 +2,11 @@
 
 use super::random::Random;
 use super::sites::MISSING;
+use super::states::not_below;
 use crate::bytes::{get16, get32, put16, put32};
-use crate::layout::{credential_state, record, rule};
+use crate::layout::{credential, credential_state, record, rule};
 use crate::numbers::{kind, ANSWER_LENGTH, ENTRY_LENGTH, MINUTES_PER_DAY, NONE, RECORD_LENGTH};
-use crate::site::{kind_of, records};
+use crate::site::{kind_of, records, CredentialRecord};
 
 /// Damages bytes that hold units (records or entries) of one length. The outcome may by chance
 /// be sound.
@@ -13,7 +14,7 @@ pub fn damage(random: &mut Random, bytes: &mut Vec<u8>, unit: usize) {
     if bytes.len() < unit {
         return extend(random, bytes, unit);
     }
-    match random.below(18) {
+    match random.below(20) {
         0..=3 => flip(random, bytes),
         4..=7 => overwrite(random, bytes, unit),
         8 => bytes.truncate(random.below(bytes.len())),
@@ -22,24 +23,50 @@ pub fn damage(random: &mut Random, bytes: &mut Vec<u8>, unit: usize) {
         12 => remove(random, bytes, unit),
         13 => swap(random, bytes, unit),
         14..=15 => change_reference(random, bytes, unit),
-        _ => change_hours(random, bytes, unit),
+        16..=17 => change_hours(random, bytes, unit),
+        _ => change_most_wrong_tries(random, bytes, unit),
     }
 }
 
 /// Changes a byte of a credential's last grant, which may hold any, or a spare byte behind it.
 pub fn damage_last_grant(random: &mut Random, site: &[u8], state: &mut [u8]) {
+    let Some((_, part)) = credential_of(random, site, state) else {
+        return;
+    };
+    let offset = random.below(RECORD_LENGTH - credential_state::LAST_GRANT_TIME);
+    let byte = &mut part[credential_state::LAST_GRANT_TIME + offset];
+    *byte ^= random.pick(&[1, 128, 255]);
+}
+
+/// Puts a credential's wrong tries where its most does not allow them, or at times one short of it.
+pub fn damage_wrong_tries(random: &mut Random, site: &[u8], state: &mut [u8]) {
+    let Some((credential, part)) = credential_of(random, site, state) else {
+        return;
+    };
+    let most = credential.most_wrong_tries();
+    part[credential_state::WRONG_TRIES] = if random.sixteenths(4) {
+        most.saturating_sub(1)
+    } else {
+        not_below(random, most)
+    };
+}
+
+/// One of the credentials with its state record.
+fn credential_of<'a>(
+    random: &mut Random,
+    site: &'a [u8],
+    state: &'a mut [u8],
+) -> Option<(CredentialRecord<'a>, &'a mut [u8])> {
     let parts = records(site).zip(state.chunks_exact_mut(RECORD_LENGTH));
-    let mut credentials: Vec<&mut [u8]> = parts
+    let mut credentials: Vec<_> = parts
         .filter(|(record, _)| kind_of(record) == kind::CREDENTIAL)
-        .map(|(_, part)| part)
+        .map(|(record, part)| (CredentialRecord(record), part))
         .collect();
     if credentials.is_empty() {
-        return;
+        return None;
     }
     let chosen = random.below(credentials.len());
-    let offset = random.below(RECORD_LENGTH - credential_state::LAST_GRANT_TIME);
-    let byte = &mut credentials[chosen][credential_state::LAST_GRANT_TIME + offset];
-    *byte ^= random.pick(&[1, 128, 255]);
+    Some(credentials.swap_remove(chosen))
 }
 
 /// Lengthens bytes beyond the most, by whole units of zeros.
@@ -79,6 +106,16 @@ fn extend(random: &mut Random, bytes: &mut Vec<u8>, unit: usize) {
 
 fn unit_at(random: &mut Random, bytes: &[u8], unit: usize) -> usize {
     random.below(bytes.len() / unit) * unit
+}
+
+/// The start of a unit that begins with the kind, or of any where none does.
+fn unit_of_kind(random: &mut Random, bytes: &[u8], unit: usize, kind: u8) -> usize {
+    let starts = (0..bytes.len() / unit).map(|index| index * unit);
+    let of_kind: Vec<usize> = starts
+        .filter(|start| bytes[start + record::KIND] == kind)
+        .collect();
+    let other = unit_at(random, bytes, unit);
+    random.pick_or(&of_kind, other)
 }
 
 /// Puts a copy of one unit before another, at times under the other's instance.
@@ -124,12 +161,7 @@ fn change_reference(random: &mut Random, bytes: &mut [u8], unit: usize) {
 /// Puts from or to of a rule at or beside the end of the day, or each in the other's place. Where no
 /// unit is a rule, it changes the bytes in their places of another unit.
 fn change_hours(random: &mut Random, bytes: &mut [u8], unit: usize) {
-    let starts = (0..bytes.len() / unit).map(|index| index * unit);
-    let rules: Vec<usize> = starts
-        .filter(|start| bytes[start + record::KIND] == kind::RULE)
-        .collect();
-    let other = unit_at(random, bytes, unit);
-    let start = random.pick_or(&rules, other);
+    let start = unit_of_kind(random, bytes, unit, kind::RULE);
     let (from, to) = (start + rule::FROM, start + rule::TO);
     if random.sixteenths(4) {
         let hours = [get16(bytes, from), get16(bytes, to)];
@@ -140,4 +172,13 @@ fn change_hours(random: &mut Random, bytes: &mut [u8], unit: usize) {
     let end = MINUTES_PER_DAY;
     let minute = random.pick(&[end - 1, end, end + 1, end + 1, end + 2, u16::MAX]);
     put16(bytes, random.pick(&[from, to]), minute);
+}
+
+/// Writes the most wrong tries of a credential, which may be any, or the spare byte behind it. Where
+/// no unit is a credential, it changes the bytes in their places of another unit.
+fn change_most_wrong_tries(random: &mut Random, bytes: &mut [u8], unit: usize) {
+    let start = unit_of_kind(random, bytes, unit, kind::CREDENTIAL);
+    let most = start + credential::MOST_WRONG_TRIES;
+    let any = random.byte();
+    bytes[random.pick(&[most, most, most + 1])] = random.pick(&[0, 1, 2, 3, 128, 255, any]);
 }

@@ -1,6 +1,6 @@
 //! Journals whose entries mostly meet the objects of a site, with bad entries of every kind.
 
-use super::clock::{beside_minute, next_time, next_visit};
+use super::clock::{beside_minute, beside_timeout, next_time, next_visit};
 use super::random::Random;
 use super::sites::{self, MISSING};
 use super::states;
@@ -16,7 +16,7 @@ struct Objects<'a> {
     zones: Vec<u32>,
     points: Vec<u32>,
     /// The points that want two factors.
-    two_factor_points: Vec<u32>,
+    two_factor_points: Vec<PointRecord<'a>>,
     credentials: Vec<u32>,
     factors: Vec<FactorRecord<'a>>,
     /// The minutes at which rules begin or cease to fit.
@@ -30,8 +30,8 @@ impl<'a> Objects<'a> {
             zones: of(kind::ZONE).map(instance_of).collect(),
             points: of(kind::POINT).map(instance_of).collect(),
             two_factor_points: of(kind::POINT)
-                .filter(|record| PointRecord(record).factors_wanted() == factors_wanted::TWO)
-                .map(instance_of)
+                .map(PointRecord)
+                .filter(|point| point.factors_wanted() == factors_wanted::TWO)
                 .collect(),
             credentials: of(kind::CREDENTIAL).map(instance_of).collect(),
             factors: of(kind::FACTOR).map(FactorRecord).collect(),
@@ -51,9 +51,13 @@ pub fn journal(random: &mut Random, base: u32, site: &[u8], entries: usize) -> V
         now: base,
         shown: None,
         visitor: None,
+        forgotten: None,
     };
     if !writer.objects.factors.is_empty() && random.sixteenths(3) {
         writer.visitor = Some(writer.beginning(random));
+    }
+    if !writer.objects.factors.is_empty() && random.sixteenths(4) {
+        writer.forgotten = Some(writer.beginning(random));
     }
     let mut journal = Vec::with_capacity(entries * ENTRY_LENGTH);
     for _ in 0..entries {
@@ -67,10 +71,19 @@ struct Writer<'a> {
     objects: Objects<'a>,
     base: u32,
     now: u32,
-    /// The point and the credential of the identifying factor read last.
-    shown: Option<(u32, u32)>,
+    /// The identifying factor read last, at a point that wants two.
+    shown: Option<First<'a>>,
     /// A card that is read over and over on several dates, at points that grant it and at others.
     visitor: Option<FactorRecord<'a>>,
+    /// A card that is read over and over at points that want two factors, its code forgotten.
+    forgotten: Option<FactorRecord<'a>>,
+}
+
+/// The first of two factors.
+struct First<'a> {
+    point: PointRecord<'a>,
+    credential: u32,
+    time: u32,
 }
 
 impl<'a> Writer<'a> {
@@ -96,6 +109,9 @@ impl<'a> Writer<'a> {
         if self.visitor.is_some() && random.sixteenths(8) {
             return next_visit(random, self.now);
         }
+        if self.forgotten.is_some() && random.sixteenths(1) {
+            return next_visit(random, self.now);
+        }
         if self.objects.rule_minutes.is_empty() || !random.sixteenths(3) {
             return next_time(random, self.base, self.now);
         }
@@ -116,24 +132,67 @@ impl<'a> Writer<'a> {
         if self.objects.factors.is_empty() {
             return self.unknown_read(random);
         }
-        if let Some((point, credential)) = self.shown.take() {
-            if let Some(factor) = self.confirming(random, credential) {
-                return self.read_of(point, &factor);
+        if let Some(first) = self.shown.take() {
+            if let Some(entry) = self.second(random, &first) {
+                return entry;
             }
         }
         let factor = self.beginning(random);
-        let point = self.point(random);
-        if self.objects.two_factor_points.contains(&point) && random.sixteenths(13) {
-            self.shown = Some((point, factor.credential()));
+        let point = self.first_point(random);
+        let wants_two = |wanting: &&PointRecord| instance_of(wanting.0) == point;
+        let wanting = self.objects.two_factor_points.iter().find(wants_two);
+        if let Some(&point) = wanting.filter(|_| random.sixteenths(13)) {
+            self.shown = Some(First {
+                point,
+                credential: factor.credential(),
+                time: self.now,
+            });
         }
         self.read_of(point, &factor)
     }
 
-    /// A factor to begin with: mostly the visitor's, else of several draws the first identifying one or
-    /// the last.
+    /// A point to begin at: where a code is forgotten, mostly one that wants two factors.
+    fn first_point(&self, random: &mut Random) -> u32 {
+        let any = self.point(random);
+        if self.forgotten.is_none() || random.sixteenths(4) {
+            return any;
+        }
+        let points = &self.objects.two_factor_points;
+        let instances: Vec<u32> = points.iter().map(|point| instance_of(point.0)).collect();
+        random.pick_or(&instances, any)
+    }
+
+    /// What follows the first of two factors at its point: the code, if the card has one, or mostly
+    /// something else where it is forgotten.
+    fn second(&mut self, random: &mut Random, first: &First) -> Option<EntryFields> {
+        let point = instance_of(first.point.0);
+        let code = self.confirming(random, first.credential);
+        if self.forgotten.is_none() || random.sixteenths(4) {
+            return code.map(|code| self.read_of(point, &code));
+        }
+        let entry = match random.below(8) {
+            0 => self.read_error(random),
+            1..=2 => {
+                let timeout = first.point.factor_timeout();
+                self.now = beside_timeout(random, first.time, timeout);
+                self.read_of(point, &code?)
+            }
+            3..=4 => self.read_of(point, &random.pick(&self.objects.factors)),
+            _ => self.unknown_read(random),
+        };
+        Some(EntryFields {
+            instance: point,
+            ..entry
+        })
+    }
+
+    /// A factor to begin with: mostly the visitor's or that of the forgotten code, else of several draws
+    /// the first identifying one or the last.
     fn beginning(&self, random: &mut Random) -> FactorRecord<'a> {
-        if let Some(visitor) = self.visitor.filter(|_| random.sixteenths(10)) {
-            return visitor;
+        for card in [self.visitor, self.forgotten] {
+            if let Some(card) = card.filter(|_| random.sixteenths(10)) {
+                return card;
+            }
         }
         let mut factor = random.pick(&self.objects.factors);
         for _ in 0..3 {
@@ -179,7 +238,9 @@ impl<'a> Writer<'a> {
     }
 
     fn set_disable(&self, random: &mut Random) -> EntryFields {
-        let credential = random.pick_or(&self.objects.credentials, MISSING);
+        let any = random.pick_or(&self.objects.credentials, MISSING);
+        let forgotten = self.forgotten.filter(|_| random.sixteenths(10));
+        let credential = forgotten.map_or(any, |card| card.credential());
         let disable = random.pick(&[0, 0, 0, 1, 2, 3]);
         EntryFields::set_disable(self.now, credential, disable)
     }

@@ -88,6 +88,7 @@ struct Mix {
     points: usize,
     credentials: usize,
     days: usize,
+    wrong_tries: usize,
     two_factors: usize,
     authorize: usize,
     negative: usize,
@@ -100,6 +101,8 @@ impl Mix {
         let authorize = random.pick(&[0, 4, 8, 14]);
         // Apart from the others, so that at some sites most cards are day passes.
         let days = random.pick(&[0, 0, 4, 12]);
+        // Apart too, so that at some sites most cards count wrong tries.
+        let wrong_tries = random.pick(&[0, 8, 14]);
         // More often too, so that negative rules decide in each part of windows across midnight.
         let negative = random.pick(&[0, 2, 6, 10]);
         let mut part = || random.pick(&[0, 0, 2, 6, 10]);
@@ -107,6 +110,7 @@ impl Mix {
             points: part(),
             credentials: part(),
             days,
+            wrong_tries,
             two_factors: part(),
             authorize,
             negative,
@@ -299,6 +303,7 @@ fn credential(random: &mut Random, mix: &Mix, base: u32, pool: &Pool, instance: 
     let strict = mix.credentials / 2;
     let activation = [near(random, base), near(random, base), NEVER];
     let expiry = [near(random, base), near(random, base), 0];
+    let any = random.byte();
     Credential {
         flags: random.flags(&[
             (credential_flag::MASTER_EXEMPTION, 2),
@@ -323,6 +328,7 @@ fn credential(random: &mut Random, mix: &Mix, base: u32, pool: &Pool, instance: 
         uses: restriction(random, mix.credentials, UNLIMITED, &[0, 1, 2, 5]),
         days: restriction(random, mix.days, UNLIMITED, &[0, 1, 2, 2, 5, 5]),
         absentee_limit: restriction(random, strict, UNLIMITED, &[0, 1, 2, UNLIMITED - 1]),
+        most_wrong_tries: restriction(random, mix.wrong_tries, 0, &[1, 1, 2, 2, 3, 3, 4, any, 255]),
         rights: [
             reference(random, &pool.rights),
             reference(random, &pool.rights),

@@ -7,7 +7,7 @@ use crate::build::Record;
 use crate::bytes::{put16, put32};
 use crate::layout::{credential_state, point_state, zone_state};
 use crate::numbers::{kind, MOST_COUNT, NEVER, NONE, RECORD_LENGTH, UNLIMITED};
-use crate::site::{instance_of, kind_of, records, PointRecord};
+use crate::site::{instance_of, kind_of, records, CredentialRecord, PointRecord};
 
 /// A random state that the site allows.
 pub fn state(random: &mut Random, base: u32, site: &[u8]) -> Vec<u8> {
@@ -16,7 +16,7 @@ pub fn state(random: &mut Random, base: u32, site: &[u8]) -> Vec<u8> {
         let part = match kind_of(record) {
             kind::ZONE => zone(random),
             kind::POINT => point(random, base, site, &PointRecord(record)),
-            kind::CREDENTIAL => credential(random, base, site),
+            kind::CREDENTIAL => credential(random, base, site, &CredentialRecord(record)),
             _ => [0; RECORD_LENGTH],
         };
         state.extend_from_slice(&part);
@@ -41,12 +41,8 @@ fn point(random: &mut Random, base: u32, site: &[u8], point: &PointRecord) -> Re
     let mut part = [0; RECORD_LENGTH];
     let tag = random.pick(&[0, 1, u32::MAX - 1, u32::MAX]);
     put32(&mut part, point_state::ACCESS_EVENT_TAG, tag);
-    let most = usize::from(point.max_failed_attempts());
-    if most != 0 {
-        // Often one short of the most, so that the next failure locks.
-        let failures = [0, most - 1, random.below(most)];
-        part[point_state::FAILED_ATTEMPTS] = random.pick(&failures) as u8;
-    }
+    let most = point.max_failed_attempts();
+    part[point_state::FAILED_ATTEMPTS] = below_most(random, most);
     let locked = random.sixteenths(3);
     part[point_state::LOCKOUT] = u8::from(locked);
     let waiting = if locked {
@@ -65,7 +61,22 @@ fn point(random: &mut Random, base: u32, site: &[u8], point: &PointRecord) -> Re
     part
 }
 
-fn credential(random: &mut Random, base: u32, site: &[u8]) -> Record {
+/// A count below its most, or 0 where that is unset: often one short of it, so that the next failure
+/// or wrong try reaches it.
+fn below_most(random: &mut Random, most: u8) -> u8 {
+    if most == 0 {
+        return 0;
+    }
+    let any = random.below(usize::from(most)) as u8;
+    random.pick(&[0, most - 1, any])
+}
+
+fn credential(
+    random: &mut Random,
+    base: u32,
+    site: &[u8],
+    credential: &CredentialRecord,
+) -> Record {
     let mut part = [0; RECORD_LENGTH];
     let uses = remaining(random);
     put16(&mut part, credential_state::USES_REMAINING, uses);
@@ -83,6 +94,8 @@ fn credential(random: &mut Random, base: u32, site: &[u8]) -> Record {
     if random.sixteenths(2) {
         part[credential_state::CREDENTIAL_DISABLE] = random.pick(&[1, 2, 3]);
     }
+    let most = credential.most_wrong_tries();
+    part[credential_state::WRONG_TRIES] = below_most(random, most);
     let point = reference(random, site, kind::POINT);
     put32(&mut part, credential_state::LAST_ACCESS_POINT, point);
     part
@@ -100,7 +113,7 @@ pub fn spoil(random: &mut Random, site: &[u8], state: &mut [u8]) {
     match kind_of(record) {
         kind::ZONE => part[4 + random.below(RECORD_LENGTH - 4)] = 1,
         kind::POINT => spoil_point(random, &PointRecord(record), part),
-        kind::CREDENTIAL => spoil_credential(random, part),
+        kind::CREDENTIAL => spoil_credential(random, &CredentialRecord(record), part),
         _ => part[random.below(RECORD_LENGTH)] = 1,
     }
 }
@@ -117,13 +130,19 @@ fn spoil_point(random: &mut Random, point: &PointRecord, part: &mut [u8]) {
     }
 }
 
-fn spoil_credential(random: &mut Random, part: &mut [u8]) {
-    match random.below(4) {
+fn spoil_credential(random: &mut Random, credential: &CredentialRecord, part: &mut [u8]) {
+    match random.below(5) {
         0 => part[credential_state::CREDENTIAL_DISABLE] = 4,
         1 => put32(part, credential_state::ZONE, MISSING),
         2 => put32(part, credential_state::LAST_ACCESS_POINT, MISSING),
-        _ => part[random.pick(&[19, 28, 31])] = 1,
+        3 => part[credential_state::WRONG_TRIES] = not_below(random, credential.most_wrong_tries()),
+        _ => part[random.pick(&[28, 31])] = 1,
     }
+}
+
+/// A count that is not below its most: at it, above it, or other than 0 where it is unset.
+pub fn not_below(random: &mut Random, most: u8) -> u8 {
+    random.pick(&[most.max(1), most.saturating_add(1), u8::MAX])
 }
 
 fn remaining(random: &mut Random) -> u16 {

@@ -8,6 +8,7 @@ pub mod misreadings;
 pub mod paper_cases;
 pub mod readers;
 mod week;
+pub mod wrong_codes;
 
 /// Declares a test for each scenario, through one engine. Every package that tests an engine has
 /// its list from here, so that none leaves a scenario out.
@@ -62,6 +63,32 @@ macro_rules! test_scenarios {
             a_congress_guest_with_a_three_day_pass_is_let_in_on_three_days
             the_last_second_of_a_date_and_the_first_of_the_next_take_two_days
             a_state_with_spare_bytes_is_refused_and_one_with_any_last_grant_is_worked
+        }
+        $crate::test_scenarios! { $engine, wrong_codes:
+            wrong_codes_at_two_doors_count_together_and_the_third_locks_the_card_out
+            a_code_that_comes_too_late_counts
+            a_code_in_the_last_second_is_no_wrong_try
+            a_damaged_read_counts_on_the_door_and_not_on_the_card
+            a_card_without_a_most_is_counted_nowhere
+            a_most_of_one_locks_out_at_once
+            a_most_of_255_locks_out_at_the_255th_try
+            a_grant_between_begins_the_count_anew
+            a_grant_for_the_card_alone_begins_the_count_anew
+            a_right_code_that_is_not_granted_leaves_the_count
+            a_disabled_code_is_no_wrong_try
+            operation_4_zeroes_the_count_whatever_it_sets
+            operation_4_with_argument_0_lifts_the_lockout
+            a_card_disabled_in_another_way_becomes_locked_out_at_the_most
+            the_doors_own_failures_and_window_are_left_alone
+            unknown_cards_still_lock_the_door_with_mark_16
+            a_locked_door_drops_the_wait_and_counts_no_try
+            tries_never_age
+            another_card_while_a_code_is_awaited_is_a_wrong_code_of_the_first
+            two_cards_at_two_doors_are_counted_each_by_itself
+            a_state_is_worked_with_tries_below_the_most_alone
+            any_most_is_accepted_and_the_byte_behind_it_is_spare
+            one_person_forgets_the_code_while_colleagues_go_in_and_out
+            wrong_codes_in_the_east_wing_leave_the_west_wing_as_it_was
         }
     };
     ($engine:expr, $group:ident: $($scenario:ident)+) => {
