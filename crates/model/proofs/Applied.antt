@@ -5,15 +5,20 @@ use mathlib.Core.List.{List, [], _∷_, _++_, map}
 use mathlib.Core.Bool.{true}
 use lib.Dec.{eqb}
 use lib.IntN.{pos, negsuc}
+use lib.ListN.{take}
+use Rattle.octets.specs.Octets.{field}
+use Rattle.model.specs.Words.{all}
 use Rattle.model.specs.Numbers.{NONE, NEVER, UNLIMITED}
-use Rattle.model.specs.State.{wellFormed}
+use Rattle.model.specs.State.{freshRecord, wellFormed}
 use Rattle.model.specs.Calls.{number}
-use Rattle.model.specs.Lists.{History, runOn, returns, begun, ended, answersIn, firstOf, refusalIn}
+use Rattle.model.specs.Lists.{History, runOn, returns, begun, ended, answersIn, firstOf, eventIn, refusalIn, Worked, worked}
 use Rattle.model.specs.Tally.{smaller, move, setTo, signed, passed, tallied, tally, tallyOf, standing, countOf}
+use Rattle.model.specs.Part.{partRecords, partAnswers, partState}
 use Rattle.model.specs.DayPasses.{isGrantOf, grantTimes, timesGranted, datesGranted, daysInSite, stateLeft, lastOf, takenSince, daysTaken, neverFall, different}
+use Rattle.model.specs.WrongTries.{isTryOf, isDisableOf, triedOnce, triedBy, triedAfter, mostTries, triedOf, triesIn, triesSince}
 use Rattle.model.proofs.Open.{definitions}
-use Rattle.model.proofs.Build.{zone, point, lockingPoint, credential, absentCredential, masterCredential, card, read, setCount, adjust, lock, cut, runOf, events, run, history, examples}
-use Rattle.model.proofs.Parts.{part, nothing, isolationTests, parts}
+use Rattle.model.proofs.Build.{zone, point, lockingPoint, credential, absentCredential, masterCredential, triedCredential, card, code, read, damaged, setCount, adjust, lock, cut, runOf, events, run, history, examples}
+use Rattle.model.proofs.Parts.{part, nothing, isolationTests, leftOutTests, parts}
 
 -- One name that opens the definitions of Tally.
 unfoldable tallies : Unit {0}
@@ -142,3 +147,90 @@ guest-days = refl
 pub guest-last : stateLeft 5 guest .«last_grant» ∷ lastOf NEVER (timesGranted 5 guest) ∷ [] ≡ 122400 ∷ 122400 ∷ []
 unfolding passes
 guest-last = refl
+
+-- ── wrong codes
+
+-- Points 1 and 2 want a card and a code. Credential 5 has a most of 3, card 55 and code 66; 6 is MANUAL, with a most of 2, card 77 and code 88.
+unfoldable pub floor-site : List (List ℕ)
+floor-site =
+    point 1 0 1 2 NONE NONE ∷ point 2 0 1 2 NONE NONE ∷ triedCredential 5 0 3 ∷ card 5 55 ∷ code 5 66 ∷ triedCredential 6 2 2 ∷ card 6 77 ∷ code 6 88 ∷ []
+
+-- 5 gives a wrong code and then the right one; then a wrong code at each point, a damaged one, and 6's card for a code. 6 gives two wrong codes at point 2.
+unfoldable pub floor : History
+unfolding definitions examples floor-site
+floor =
+    history floor-site
+    ((read 1 1 55 ∷ read 1 2 99 ∷ read 1 3 55 ∷ read 1 4 66 ∷ read 1 5 55 ∷ read 1 6 99 ∷ read 2 7 55 ∷ read 2 8 99 ∷ []) ∷ cut
+    ∷ (read 1 9 55 ∷ damaged 1 10 ∷ read 2 11 77 ∷ read 2 12 99 ∷ read 2 13 77 ∷ read 2 14 99 ∷ read 1 15 55 ∷ read 1 16 77 ∷ read 1 17 55
+    ∷ read 1 18 66 ∷ []) ∷ []) refl
+
+-- Its first journal alone.
+unfoldable pub first-floor : History
+unfolding floor
+first-floor = record { site = floor .site; buffer = floor .buffer; accepted = floor .accepted; runs = take 1 (floor .runs) }
+
+-- One name that opens them, and the definitions of WrongTries.
+unfoldable pub codes : Unit {0}
+unfolding definitions examples floor-site floor first-floor isGrantOf stateLeft isTryOf isDisableOf triedOnce triedBy triedAfter mostTries triedOf triesIn triesSince
+codes = tt
+
+pub floor-events :
+    map (λ (w : Worked). eventIn (w .answer)) (worked floor)
+    ≡ 0 ∷ 132 ∷ 0 ∷ 1 ∷ 0 ∷ 132 ∷ 0 ∷ 132 ∷ 0 ∷ 148 ∷ 0 ∷ 132 ∷ 0 ∷ 132 ∷ 0 ∷ 132 ∷ 0 ∷ 154 ∷ []
+unfolding codes
+floor-events = refl
+
+-- No answer has mark 16: each has mark 1 alone.
+pub floor-marks : all (λ (w : Worked). eqb (field 2 1 (w .answer)) 1) (worked floor) ≡ true
+unfolding codes
+floor-marks = refl
+
+-- Both are locked out, and their counts begin again.
+pub floor-left :
+    stateLeft 5 floor .«wrong_tries» ∷ stateLeft 5 floor .disable ∷ stateLeft 6 floor .«wrong_tries» ∷ stateLeft 6 floor .disable ∷ [] ≡ 0 ∷ 3 ∷ 0 ∷ 3 ∷ []
+unfolding codes
+floor-left = refl
+
+-- After the first journal 5 has had two of its three tries since the grant.
+pub floor-tried :
+    stateLeft 5 first-floor .«wrong_tries» ∷ triedOf 5 first-floor .tries ∷ triesSince 5 0 (worked first-floor) ∷ stateLeft 5 first-floor .disable ∷ []
+    ≡ 2 ∷ 2 ∷ 2 ∷ 0 ∷ []
+unfolding codes
+floor-tried = refl
+
+-- ── a list with every entry outside the part left out
+
+-- Each wing has a point that wants a card and a code, and a credential that is locked out at the second wrong code; west is the part.
+unfoldable pub coded-wings : List (List ℕ)
+coded-wings =
+    point 7 0 1 2 NONE NONE ∷ triedCredential 2 0 2 ∷ card 2 22 ∷ code 2 23 ∷ point 1 0 1 2 NONE NONE ∷ triedCredential 1 0 2 ∷ card 1 11 ∷ code 1 12 ∷ []
+
+-- Wrong codes in the east wing, beside west's entries, and alone.
+unfoldable pub forgetful : History
+unfolding definitions examples coded-wings
+forgetful =
+    history coded-wings
+    ((read 7 1 22 ∷ read 1 2 11 ∷ read 7 3 99 ∷ read 1 4 99 ∷ []) ∷ cut ∷ (read 7 5 22 ∷ read 1 6 11 ∷ read 7 7 99 ∷ read 1 8 12 ∷ []) ∷ []) refl
+
+unfoldable pub forgetful-east : History
+unfolding definitions examples coded-wings
+forgetful-east = history coded-wings ((read 7 1 22 ∷ read 7 3 99 ∷ []) ∷ cut ∷ (read 7 5 22 ∷ read 7 7 99 ∷ []) ∷ []) refl
+
+-- East's credential is locked out.
+pub east-locked : stateLeft 2 forgetful .disable ∷ stateLeft 2 forgetful-east .disable ∷ [] ≡ 3 ∷ 3 ∷ []
+unfolding codes coded-wings forgetful forgetful-east
+east-locked = refl
+
+-- West gets the same answers and the same state with east's entries left out, and what it gets is not nothing.
+pub west-left : leftOutTests (part nothing nothing) forgetful ≡ true ∷ true ∷ true ∷ true ∷ true ∷ true ∷ []
+unfolding definitions examples coded-wings forgetful parts
+west-left = refl
+
+pub west-events : map eventIn (partAnswers (part nothing nothing) forgetful) ≡ 0 ∷ 132 ∷ 0 ∷ 1 ∷ []
+unfolding definitions examples coded-wings forgetful parts
+west-events = refl
+
+-- Wrong codes in the east wing leave every card record of the west wing as it was.
+pub west-untouched : partState (part nothing nothing) forgetful-east ≡ map freshRecord (partRecords (part nothing nothing) forgetful-east)
+unfolding definitions examples coded-wings forgetful-east parts
+west-untouched = refl

@@ -65,6 +65,12 @@ masterCredential i =
     (n.access-credential ∷ 1 ∷ 0 ∷ 0 ∷ []) ++ digits 4 i ++ digits 4 0 ++ digits 4 NEVER ++ digits 2 UNLIMITED ++ digits 2 UNLIMITED
     ++ digits 2 UNLIMITED ++ zeros 2 ++ digits 4 NONE ++ digits 4 NONE
 
+-- A credential with its disable and its most wrong tries.
+unfoldable pub triedCredential : ℕ → ℕ → ℕ → List ℕ
+triedCredential i disable most =
+    (n.access-credential ∷ 0 ∷ disable ∷ 0 ∷ []) ++ digits 4 i ++ digits 4 0 ++ digits 4 NEVER ++ digits 2 UNLIMITED ++ digits 2 UNLIMITED
+    ++ digits 2 UNLIMITED ++ (most ∷ 0 ∷ []) ++ digits 4 NONE ++ digits 4 NONE
+
 -- A credential with both rights numbers.
 unfoldable pub ruledCredential : ℕ → ℕ → ℕ → List ℕ
 ruledCredential i first second =
@@ -77,6 +83,9 @@ factor role i value = (n.authentication-factor ∷ 0 ∷ role ∷ 0 ∷ []) ++ d
 unfoldable pub card : ℕ → ℕ → List ℕ
 card i value = factor n.role-identifying i value
 
+unfoldable pub code : ℕ → ℕ → List ℕ
+code i value = factor n.role-confirming i value
+
 -- A rule of a rights number at a point, on a Monday from a minute to another; an enabled rule that fits always and everywhere.
 unfoldable pub rule : ℕ → ℕ → ℕ → ℕ → ℕ → List ℕ
 rule rights flags at from to =
@@ -85,9 +94,12 @@ rule rights flags at from to =
 unfoldable pub everyRule : ℕ → List ℕ
 everyRule rights = (n.access-rule ∷ 13 ∷ 0 ∷ 0 ∷ []) ++ digits 4 rights ++ zeros 24
 
--- A factor of format 2 read at a point; a zone's count set; adjusted; a credential's disable set.
+-- A factor of format 2 read at a point; one that is damaged; a zone's count set; adjusted; a credential's disable set.
 unfoldable pub read : ℕ → ℕ → ℕ → List ℕ
 read at time value = (1 ∷ 2 ∷ 0 ∷ 0 ∷ []) ++ digits 4 time ++ digits 4 at ++ zeros 8 ++ digits 4 value
+
+unfoldable pub damaged : ℕ → ℕ → List ℕ
+damaged at time = (1 ∷ n.format-error ∷ 0 ∷ 0 ∷ []) ++ digits 4 time ++ digits 4 at ++ zeros 12
 
 unfoldable pub setCount : ℕ → ℕ → List ℕ
 setCount i amount = (2 ∷ 0 ∷ 0 ∷ 0 ∷ []) ++ digits 4 0 ++ digits 4 i ++ digits 4 amount ++ zeros 8
@@ -132,5 +144,5 @@ history site journals accepted =
 
 -- One name that opens them all.
 unfoldable pub examples : Unit {0}
-unfolding zone lowerZone passbackZone point lockingPoint threatPoint credential limitedCredential absentCredential masterCredential ruledCredential factor card rule everyRule read setCount adjust setDisable lock cut runOf events run history
+unfolding zone lowerZone passbackZone point lockingPoint threatPoint credential limitedCredential absentCredential masterCredential triedCredential ruledCredential factor card code rule everyRule read damaged setCount adjust setDisable lock cut runOf events run history
 examples = tt

@@ -3,8 +3,9 @@ use Prim.Native.Nat.{ℕ, _+_}
 use native.Mathlib.Omega.{arith}
 use mathlib.Core.Path.{_≡_, refl}
 use mathlib.Core.List.{List, [], _∷_, map, flatten}
-use mathlib.Core.Bool.{_||_}
-use lib.Dec.{eqb}
+use mathlib.Core.Bool.{true, _||_}
+use lib.Dec.{ltb, eqb}
+use lib.ListN.{take, drop}
 use lib.IntN.{pos}
 use Rattle.octets.specs.Octets.{put}
 use Rattle.model.specs.Numbers.{NONE, NEVER, UNLIMITED}
@@ -14,24 +15,27 @@ use Rattle.model.specs.Entry.{entryOf}
 use Rattle.model.specs.Checks.{timeFits}
 use Rattle.model.specs.Step.{situationOf}
 use Rattle.model.specs.Calls.{checkSite}
-use Rattle.model.specs.Lists.{Worked, workedIn}
+use Rattle.model.specs.Lists.{Worked, workedIn, begun, worked}
 use Rattle.model.specs.Tally.{standing, tallyOf, countOf}
-use Rattle.model.specs.Part.{SelfContained, partAnswers, partState}
+use Rattle.model.specs.Part.{SelfContained, partAnswers, partState, othersLeftOut}
 use Rattle.model.specs.Earned.{FittingRule, Earned}
 use Rattle.model.specs.Shifts.{isShift, followingDays, untilMidnight, sinceMidnight, standsHalved, standsWhole, Halved, Rewritten}
 use Rattle.model.specs.DayPasses.{timesGranted, datesGranted, daysInSite, stateLeft, lastOf, daysTaken, different}
-use Rattle.model.specs.Demands.{Count, Isolation, GrantEarned, ShiftHalves, SameShifts, FreshShifts, AcceptedShifts, LastGrant, DaysTaken, DaysOfAdmission}
+use Rattle.model.specs.WrongTries.{mostTries, triedOf, triesIn, triesSince}
+use Rattle.model.specs.Demands.{Count, Isolation, GrantEarned, ShiftHalves, SameShifts, FreshShifts, AcceptedShifts, LastGrant, DaysTaken, DaysOfAdmission, OthersLeftOut, WrongTries, GrantBelowMost}
 use Rattle.model.proofs.Open.{definitions}
 use Rattle.model.proofs.Build.{point, credential, card, rule, read, run, examples}
 use Rattle.model.proofs.Parts.{part, nothing, parts}
-use Rattle.model.proofs.Applied.{hall, west, east, both-wings, west-alone, guest, passes}
+use Rattle.model.proofs.Applied.{hall, west, east, both-wings, west-alone, guest, passes, floor, codes, coded-wings, forgetful}
 use Rattle.model.proofs.Counted.{count-is-tally}
 use Rattle.model.proofs.Isolation.{isolation}
+use Rattle.model.proofs.LeftOut.{others-left-out}
 use Rattle.model.proofs.Granted.{grant-earned}
 use Rattle.model.proofs.Shifts.{shift-halves}
 use Rattle.model.proofs.SameShifts.{same-shifts, fresh-shifts}
 use Rattle.model.proofs.ShiftsAccepted.{accepted-shifts}
 use Rattle.model.proofs.DayPasses.{last-grant, days-taken, days-of-admission, dates-never-fall}
+use Rattle.model.proofs.WrongTries.{wrong-tries, grant-below-most}
 
 -- The count of zone 9 in the hall.
 pub hall-counted : pos (countOf 9 hall) ≡ standing (tallyOf 9 hall)
@@ -125,3 +129,24 @@ guest-taken = days-taken guest 5 refl (omega arith)
 pub guest-held : stateLeft 5 guest .«last_grant» ≡ lastOf NEVER (timesGranted 5 guest)
 unfolding passes LastGrant
 guest-held = last-grant guest 5 refl
+
+-- Wrong tries and disable of credential 5 on the floor are those that the answers show.
+pub floor-shown : (stateLeft 5 floor .«wrong_tries» ≡ triedOf 5 floor .tries) × (stateLeft 5 floor .disable ≡ triedOf 5 floor .disable)
+unfolding codes WrongTries
+floor-shown = wrong-tries floor 5 refl
+
+-- Its grant, the fourth answer, found fewer than three wrong tries.
+pub floor-granted : eqb (mostTries 5 (floor .site)) 0 || ltb (triesSince 5 (triesIn 5 (floor .site) (begun floor)) (take 3 (worked floor))) (mostTries 5 (floor .site)) ≡ true
+unfolding codes GrantBelowMost
+floor-granted = grant-below-most (floor .site) (begun floor) (floor .runs) 5 (take 3 (worked floor)) (drop 4 (worked floor)) _ refl refl
+
+-- West beside a forgetful east is self-contained, so with east's entries left out it gets the same answers and state.
+pub west-beside-forgetful : SelfContained (part nothing nothing) forgetful
+unfolding definitions examples coded-wings forgetful parts
+west-beside-forgetful = record { site = refl; reads = refl }
+
+pub west-alike :
+    (map (λ (w : Worked). w .answer) (worked (othersLeftOut (part nothing nothing) forgetful)) ≡ partAnswers (part nothing nothing) forgetful)
+    × (partState (part nothing nothing) (othersLeftOut (part nothing nothing) forgetful) ≡ partState (part nothing nothing) forgetful)
+unfolding OthersLeftOut
+west-alike = let l = others-left-out (part nothing nothing) forgetful west-beside-forgetful in (l .1, l .2)

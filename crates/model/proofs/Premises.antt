@@ -1,4 +1,4 @@
--- Why `Isolation` has its premises: for each of them a pair of lists from fresh in which all the others hold and the conclusion fails.
+-- Why `Isolation` and `OthersLeftOut` have their premises: for each of them lists from fresh in which all the others hold and the conclusion fails.
 use Prim.Native.Nat.{ℕ}
 use mathlib.Core.Path.{_≡_, refl, ap}
 use mathlib.Core.List.{List, [], _∷_, _++_}
@@ -9,8 +9,8 @@ use Rattle.model.specs.Words.{all}
 use Rattle.model.specs.Lists.{History}
 use Rattle.model.specs.Part.{Part, inside, partRecords}
 use Rattle.model.proofs.Open.{definitions}
-use Rattle.model.proofs.Build.{zone, lowerZone, point, credential, ruledCredential, factor, card, everyRule, read, adjust, lock, history, examples}
-use Rattle.model.proofs.Parts.{part, nothing, isolationTests, parts}
+use Rattle.model.proofs.Build.{zone, lowerZone, point, credential, ruledCredential, factor, card, everyRule, read, adjust, setDisable, lock, history, examples}
+use Rattle.model.proofs.Parts.{part, nothing, isolationTests, leftOutTests, parts}
 
 -- ── the border of the part's own records. They are the same in both sites, and so is what they name: where one site breaks the border by a record of
 -- the part, the other does too.
@@ -222,3 +222,32 @@ dead-unvisited = history dead-door ((read 1 5 22 ∷ []) ∷ []) refl
 foreign-card-out-of-service : isolationTests (part nothing nothing) dead-visited dead-unvisited ≡ true ∷ true ∷ true ∷ true ∷ true ∷ true ∷ true ∷ []
 unfolding definitions examples dead-door strangers dead-visited dead-unvisited parts
 foreign-card-out-of-service = refl
+
+-- ── `OthersLeftOut`: its premises are on one list
+
+-- The border: what others do in zone 9, across it, changes the answer at point 1, into it and out of it. It returns what it did and has the same entries.
+crowded-left : leftOutTests (part nothing nothing) crowded ≡ false ∷ true ∷ true ∷ false ∷ false ∷ true ∷ []
+unfolding definitions examples lobby crowded parts
+crowded-left = refl
+
+staffed-left : leftOutTests (part nothing nothing) staffed ≡ false ∷ true ∷ true ∷ false ∷ false ∷ true ∷ []
+unfolding definitions examples watched staffed parts
+staffed-left = refl
+
+-- Zone 9 is the part's, and a point across the border leads into it.
+entered-left : leftOutTests (part (λ i. eqb i 9) nothing) entered-from-outside ≡ false ∷ true ∷ true ∷ false ∷ false ∷ true ∷ []
+unfolding definitions examples wing strangers entered-from-outside parts
+entered-left = refl
+
+-- The reads: the part's card is read across the border; a card from there, which is disabled there, is read at the part's point.
+strayed-left : leftOutTests (part nothing nothing) strayed ≡ true ∷ false ∷ true ∷ true ∷ false ∷ true ∷ []
+unfolding definitions examples gate door strayed parts
+strayed-left = refl
+
+disabled-visitor : History
+unfolding definitions examples door strangers
+disabled-visitor = history (door ++ strangers) ((setDisable 2 2 ∷ read 1 5 22 ∷ []) ∷ []) refl
+
+visitor-left : leftOutTests (part nothing nothing) disabled-visitor ≡ true ∷ false ∷ true ∷ false ∷ true ∷ true ∷ []
+unfolding definitions examples door strangers disabled-visitor parts
+visitor-left = refl
