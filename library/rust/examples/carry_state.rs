@@ -42,8 +42,8 @@ fn place_in(site: &[u8], record: &[u8]) -> Option<usize> {
     }
 }
 
-/// What the new site no longer has is NONE in the state, and failures that a lowered most does not
-/// leave room for are 0.
+/// What the new site no longer has is NONE in the state, and failures and wrong tries that a lowered
+/// most does not leave room for are 0.
 fn fit(site: &[u8], record: &[u8], state: &mut [u8]) {
     match record[KIND] {
         ACCESS_POINT => {
@@ -61,6 +61,9 @@ fn fit(site: &[u8], record: &[u8], state: &mut [u8]) {
             drop_missing(state, CREDENTIAL_STATE_LAST_POINT, |point| {
                 place_of_point(site, point)
             });
+            if state[CREDENTIAL_STATE_WRONG_TRIES] >= record[CREDENTIAL_MOST_WRONG_TRIES] {
+                state[CREDENTIAL_STATE_WRONG_TRIES] = 0;
+            }
         }
         _ => {}
     }

@@ -1,5 +1,6 @@
 //! The access decision engine of document 01, proved, for a panel maker who writes Rust; with the
-//! shifts that cross midnight, the day passes and the 26-bit readers of document 02.
+//! shifts that cross midnight, the wrong codes that follow the card, the day passes and the 26-bit
+//! readers of document 02.
 //!
 //! The calls are those of the C library: each is proved to return and write what document 01 says,
 //! whatever bytes it is handed, and to end. This package only lends them slices, and is not proved.

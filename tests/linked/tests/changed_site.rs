@@ -69,12 +69,18 @@ fn credential(instance: u32) -> Record {
     .record()
 }
 
+/// A credential's record with its most wrong tries.
+fn with_most(most_wrong_tries: u8, mut record: Record) -> Record {
+    record[CREDENTIAL_MOST_WRONG_TRIES] = most_wrong_tries;
+    record
+}
+
 /// Zone, entrance, credentials 5 and 6 with their factors.
 fn records() -> Vec<Record> {
     vec![
         zone(),
         entrance(),
-        credential(5),
+        with_most(3, credential(5)),
         factor(5),
         credential(6),
         factor(6),
@@ -189,17 +195,33 @@ fn in_place_the_sites_uses_and_disable_change_nothing() {
     assert_eq!(events(&new_site, &mut state, &both_cards()), BY_THEIR_OWN);
 }
 
-/// A most that is lowered to the failures turns the state back until they are 0.
-#[test]
-fn in_place_a_lowered_most_asks_for_no_failures() {
+/// A most that is lowered to what adds up in the state turns the state back until that is 0.
+fn asks_for_none(place: Option<usize>, most: usize, counted: usize) {
     let site = larger_site();
     let mut state = larger_state(&site);
-    let place = place_of_point(&site, POINT_THAT_LOCKS).expect("the point is there");
+    let start = place.expect("the object is there") * RECORD_SIZE;
+    assert_eq!(state[start + counted], 2);
     let mut new_site = site.clone();
-    new_site[place * RECORD_SIZE + POINT_MOST_FAILURES] = 2;
+    new_site[start + most] = 2;
     assert_eq!(check_state(&new_site, &state), Err(TurnedBack::StateForm));
-    state[place * RECORD_SIZE + POINT_STATE_FAILURES] = 0;
+    state[start + counted] = 0;
     assert_eq!(check_state(&new_site, &state), Ok(()));
+}
+
+#[test]
+fn in_place_a_lowered_most_asks_for_no_failures() {
+    let place = place_of_point(&larger_site(), POINT_THAT_LOCKS);
+    asks_for_none(place, POINT_MOST_FAILURES, POINT_STATE_FAILURES);
+}
+
+#[test]
+fn in_place_a_lowered_most_asks_for_no_wrong_tries() {
+    let place = place_of_credential(&larger_site(), 5);
+    asks_for_none(
+        place,
+        CREDENTIAL_MOST_WRONG_TRIES,
+        CREDENTIAL_STATE_WRONG_TRIES,
+    );
 }
 
 /// Two records change places, and the state does not: it is accepted, and each holds the state of the other.
@@ -224,7 +246,7 @@ fn a_record_that_moved_alone_holds_the_state_of_another() {
     );
 }
 
-/// The points of the larger site: one waits for credential 6, one has two of three failures.
+/// The points of the larger site: one waits for credential 6, one has two of three failures. Credential 5 has two of three wrong tries.
 fn larger_site() -> Vec<u8> {
     let waits = Point {
         factors_wanted: TWO_FACTORS,
@@ -245,8 +267,14 @@ fn larger_state(site: &[u8]) -> Vec<u8> {
         read(120, POINT_THAT_LOCKS, 9),
         read(121, POINT_THAT_LOCKS, 9),
     ];
-    let entries = [&[read(115, POINT_OF_TWO, 6)], &failures[..]].concat();
+    let wrong_codes = [5, 9, 5, 9].map(|value| read(114, POINT_OF_TWO, value));
+    let waits = [read(115, POINT_OF_TWO, 6)];
+    let entries = [&wrong_codes[..], &waits, &failures].concat();
     let expected = [
+        NO_EVENT,
+        DENIED_INCORRECT_AUTHENTICATION_FACTOR,
+        NO_EVENT,
+        DENIED_INCORRECT_AUTHENTICATION_FACTOR,
         NO_EVENT,
         DENIED_UNKNOWN_CREDENTIAL,
         DENIED_UNKNOWN_CREDENTIAL,
@@ -255,7 +283,7 @@ fn larger_state(site: &[u8]) -> Vec<u8> {
     state
 }
 
-/// The zone and credential 6 are gone, and one failure locks.
+/// The zone and credential 6 are gone, one failure locks, and one wrong try locks out.
 fn smaller_site() -> Vec<u8> {
     let waits = Point {
         factors_wanted: TWO_FACTORS,
@@ -270,7 +298,7 @@ fn smaller_site() -> Vec<u8> {
         locks.record(),
         waits.record(),
         point(POINT).record(),
-        credential(5),
+        with_most(1, credential(5)),
     ]
     .concat()
 }
@@ -283,6 +311,8 @@ fn carried_over_what_is_gone_is_nobodys() {
 
     let mut five = at(&old_state, place_of_credential(&old_site, 5)).to_vec();
     five[CREDENTIAL_STATE_ZONE..][..4].copy_from_slice(&NONE.to_be_bytes());
+    assert_eq!(five[CREDENTIAL_STATE_WRONG_TRIES], 2);
+    five[CREDENTIAL_STATE_WRONG_TRIES] = 0;
     assert_eq!(at(&state, place_of_credential(&new_site, 5)), five);
 
     let mut waited = at(&old_state, place_of_point(&old_site, POINT_OF_TWO)).to_vec();

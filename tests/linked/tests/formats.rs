@@ -60,6 +60,7 @@ fn records() -> [Record; 5] {
             uses: 7,
             days: 8,
             disable: DISABLE_LOCKOUT,
+            most_wrong_tries: 3,
             ..Credential::new(4)
         }
         .record(),
