@@ -26,9 +26,9 @@ yard = digits 32 0x01_01_00_00_00000008_00000000_00000000_00000000_0000000000000
 unfoldable pub rule : List ℕ
 rule = digits 32 0x03_05_02_00_00000009_00000002_0000_0000_00000000000000000000000000000000
 
--- Credential 5: unlimited, no rights.
+-- Credential 5: unlimited, no rights, its most wrong tries unset.
 unfoldable pub person : List ℕ
-person = digits 32 0x04_00_00_00_00000005_00000000_FFFFFFFF_FFFF_FFFF_FFFF_0000_003FFFFF_003FFFFF
+person = digits 32 0x04_00_00_00_00000005_00000000_FFFFFFFF_FFFF_FFFF_FFFF_00_00_003FFFFF_003FFFFF
 
 -- Its identifying factor, of format 2 and value 0x55, and its confirming factor, of format 3 and value 0x66.
 unfoldable pub card : List ℕ
@@ -43,7 +43,8 @@ pin = digits 32 0x05_00_02_00_00000005_03_00000000000000_0000000000000066_000000
 unfoldable pub door-state : List ℕ
 door-state = digits 32 0x0000000A_00_00_0000_000003E8_00000384_003FFFFF_00000320_0000000000000000
 
--- Of credential 5: 9 uses, 8 days, used at 700, in no zone, entered at 600, event 128, not disabled, at no point, granted at 650.
+-- Of credential 5: 9 uses, 8 days, used at 700, in no zone, entered at 600, event 128, not disabled, no wrong tries, at no point, granted
+-- at 650.
 unfoldable pub person-state : List ℕ
 person-state = digits 32 0x0009_0008_000002BC_003FFFFF_00000258_0080_00_00_003FFFFF_0000028A_00000000
 

@@ -1,5 +1,6 @@
 -- "Failures are 129, 131, 132, 148, where a most is set: the first since zero, or one with elapsed > a set window, makes 1 and sets first
--- failure; others add 1. At the most: lock from now, failures 0, mark 16."
+-- failure; others add 1. At the most: lock from now, failures 0, mark 16." Document 02, job 4: "Failures 131 and 132 shall be counted for each credential, not
+-- on the point; 129 and 148 stay on the point."
 use Prim.Native.Nat.{ℕ}
 use mathlib.Core.Path.{_≡_, refl}
 use mathlib.Core.List.{List, [], _∷_, _++_}
@@ -80,19 +81,31 @@ unfoldable pub kept : List Field → List Field → List ℕ
 kept ds ss = worked (from-state (site (most 3 ∷ ds) [] []) (state (failures 2 ∷ []) ss) (shows 950 0x55 ∷ []))
 
 pub record Failing : Type 0 where
-  -- 131, 132 and 148 are failures as 129 is.
+  -- 131 and 132 are counted "not on the point": failures, first failure and lock stay.
   timeout :
       third [] (types 1031 0x66)
-      ≡ 0x0083_13_00_0000000B_00000005_00000000 ∷ 0x0000000B_00_01_0000_00000407_00000384_003FFFFF_000003E8_0000000000000000
+      ≡ 0x0083_03_00_0000000B_00000005_00000000 ∷ 0x0000000B_02_00_0000_000003E8_00000384_003FFFFF_000003E8_0000000000000000
       ∷ 0x0009_0008_00000407_003FFFFF_00000258_0083_00_00_00000002_0000028A_00000000 ∷ 0 ∷ 0 ∷ []
   incorrect :
       third [] (types 1030 0x67)
-      ≡ 0x0084_13_00_0000000B_00000005_00000000 ∷ 0x0000000B_00_01_0000_00000406_00000384_003FFFFF_000003E8_0000000000000000
+      ≡ 0x0084_03_00_0000000B_00000005_00000000 ∷ 0x0000000B_02_00_0000_000003E8_00000384_003FFFFF_000003E8_0000000000000000
       ∷ 0x0009_0008_00000406_003FFFFF_00000258_0084_00_00_00000002_0000028A_00000000 ∷ 0 ∷ 0 ∷ []
-  error :
+  -- "129 and 148 stay on the point": 148 while a code is awaited, and where nobody is waited for.
+  error-waiting :
       third [] (errs 1030 0)
       ≡ 0x0094_13_00_0000000B_00000005_00000000 ∷ 0x0000000B_00_01_0000_00000406_00000384_003FFFFF_000003E8_0000000000000000
       ∷ 0x0009_0008_00000406_003FFFFF_00000258_0094_00_00_00000002_0000028A_00000000 ∷ 0 ∷ 0 ∷ []
+  error :
+      worked (from-state (site (most 3 ∷ []) [] []) (state (failures 2 ∷ []) []) (errs 950 0 ∷ []))
+      ≡ 0x0094_11_00_0000000B_003FFFFF_00000000 ∷ 0x0000000B_00_01_0000_000003B6_00000384_003FFFFF_00000320_0000000000000000 ∷ rest
+  -- A wrong code, the card again and an unknown code, which is wrong too; then an unknown card, the third failure.
+  unknown-after :
+      worked
+      (from-state (site (factors-wanted 2 ∷ most 3 ∷ []) [] []) (state (failures 2 ∷ waiting-for 5 ∷ waiting-since 1000 ∷ []) [])
+      (types 1001 0x67 ∷ shows 1002 0x55 ∷ shows 1003 0x77 ∷ shows 1004 0x77 ∷ []))
+      ≡ 0x0084_01_00_0000000B_00000005_00000000 ∷ 0x0000_01_00_0000000C_00000005_00000000 ∷ 0x0084_01_00_0000000D_00000005_00000000
+      ∷ 0x0081_11_00_0000000E_003FFFFF_00000000 ∷ 0x0000000E_00_01_0000_000003EC_00000384_003FFFFF_000003EA_0000000000000000
+      ∷ 0x0009_0008_000003EB_003FFFFF_00000258_0084_00_00_00000002_0000028A_00000000 ∷ 0 ∷ 0 ∷ []
   -- A disabled factor is none: failures and first failure stay.
   disabled-factor :
       third (factor-disable 1 ∷ []) (types 1030 0x66)
@@ -122,7 +135,9 @@ failing =
     record {
       timeout = refl;
       incorrect = refl;
+      error-waiting = refl;
       error = refl;
+      unknown-after = refl;
       disabled-factor = refl;
       deny-all = refl;
       disabled-credential = refl;

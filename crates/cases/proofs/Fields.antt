@@ -67,7 +67,8 @@ from-minute v = (12, 2, v)
 abbrev pub to-minute : ℕ → Field
 to-minute v = (14, 2, v)
 
--- Credential: "2: disable .. 3: threat authority .. 8 activation, 12 expiry .. 16 uses, 18 days, 20 absentee days .. 24 and 28 rights numbers".
+-- Credential: "2: disable .. 3: threat authority .. 8 activation, 12 expiry .. 16 uses, 18 days, 20 absentee days .. 24 and 28 rights numbers"; document 02,
+-- job 4: "Credential offset 22 (1 byte, 0 unset) is the most wrong tries".
 abbrev pub disable : ℕ → Field
 disable v = (2, 1, v)
 
@@ -88,6 +89,9 @@ days-given v = (18, 2, v)
 
 abbrev pub absentee : ℕ → Field
 absentee v = (20, 2, v)
+
+abbrev pub most-tries : ℕ → Field
+most-tries v = (22, 1, v)
 
 abbrev pub first-rights : ℕ → Field
 first-rights v = (24, 4, v)
@@ -121,8 +125,8 @@ waiting-for v = (16, 4, v)
 abbrev pub waiting-since : ℕ → Field
 waiting-since v = (20, 4, v)
 
--- Of a credential: "0 uses, 2 days, 4 last use, 8 zone, 12 entered, 16 last event, 18 disable, 20 last point"; document 02: "last
--- grant at offset 24".
+-- Of a credential: "0 uses, 2 days, 4 last use, 8 zone, 12 entered, 16 last event, 18 disable, 20 last point"; document 02: "The
+-- credential's state gains the count at offset 19", "last grant at offset 24".
 abbrev pub uses : ℕ → Field
 uses v = (0, 2, v)
 
@@ -140,6 +144,9 @@ entered v = (12, 4, v)
 
 abbrev pub disabled : ℕ → Field
 disabled v = (18, 1, v)
+
+abbrev pub tries : ℕ → Field
+tries v = (19, 1, v)
 
 abbrev pub last-point : ℕ → Field
 last-point v = (20, 4, v)

@@ -21,6 +21,10 @@ pub mod Limits
 pub mod Grants
 pub mod DayPasses
 pub mod Admissions
+pub mod WrongTries
+pub mod TriesCounted
+pub mod TriesKept
+pub mod Tried
 pub mod Failures
 pub mod Operations
 pub mod Answers
@@ -28,4 +32,5 @@ pub mod Runs
 pub mod Printed
 pub mod Tallies
 pub mod SelfContained
+pub mod Wings
 pub mod Unearned

@@ -72,7 +72,8 @@ pub point-read :
 unfolding definitions offsets
 point-read = refl
 
--- "3: threat authority. 8 activation, 12 expiry (4 each). 20 absentee days (2). 24 and 28 rights numbers."
+-- "3: threat authority. 8 activation, 12 expiry (4 each). 20 absentee days (2). 24 and 28 rights numbers." Document 02, job 4: "Credential offset 22 (1 byte,
+-- 0 unset) is the most wrong tries".
 pub credential-read :
     credentialOf offsets
     ≡ record {
@@ -85,6 +86,7 @@ pub credential-read :
       activation = 0x08090A0B;
       expiry = 0x0C0D0E0F;
       «absentee_days» = 0x1415;
+      «most_wrong_tries» = 22;
       «first_rights» = record { 0 = 0x18191A1B };
       «second_rights» = record { 0 = 0x1C1D1E1F };
     }

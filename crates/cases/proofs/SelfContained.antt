@@ -6,7 +6,6 @@ use mathlib.Core.Bool.{Bool, true, false}
 use lib.Dec.{eqb}
 use Rattle.octets.specs.Octets.{put}
 use Rattle.model.specs.Numbers.{NONE, NEVER, UNLIMITED}
-use Rattle.model.specs.Site.{records}
 use Rattle.model.specs.State.{Panel, panel}
 use Rattle.model.specs.Entry.{entryOf, answerBytes}
 use Rattle.model.specs.Step.{entryOutcome}

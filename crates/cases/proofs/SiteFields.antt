@@ -90,18 +90,20 @@ rule-locations = refl
 
 -- "Kind 4, credential. Flags: 0 master, 1 passback and 2 occupancy exemption, 3 trace, 4 extended time. 2: disable 0 NONE, 1 DISABLE,
 -- 2 MANUAL, 3 LOCKOUT. 3: threat authority 0..100. 8 activation, 12 expiry (4 each). 16 uses, 18 days, 20 absentee days (2 each). 24 and 28
--- rights numbers or NONE." "A missing rights number is ignored."
+-- rights numbers or NONE." "A missing rights number is ignored." Document 02, job 4: "Credential offset 22 (1 byte, 0 unset) is the most wrong tries"; byte
+-- 23 stays spare.
 unfoldable pub largest-credential : List ℕ
 largest-credential =
     record-of
     ((0, 1, 4) ∷ (1, 1, 31) ∷ (2, 1, 3) ∷ (3, 1, 100) ∷ (4, 4, 4194302) ∷ (8, 4, 4294967295) ∷ (12, 4, 4294967295) ∷ (16, 2, 65535)
-    ∷ (18, 2, 65535) ∷ (20, 2, 65535) ∷ (24, 4, 4194303) ∷ (28, 4, 4194303) ∷ [])
+    ∷ (18, 2, 65535) ∷ (20, 2, 65535) ∷ (22, 1, 255) ∷ (24, 4, 4194303) ∷ (28, 4, 4194303) ∷ [])
 
 pub credential-fields :
     changed-numbers [] largest-credential
-    ([] ∷ ((0, 1, 0) ∷ []) ∷ ((1, 1, 32) ∷ []) ∷ ((2, 1, 4) ∷ []) ∷ ((3, 1, 101) ∷ []) ∷ ((4, 4, 4194303) ∷ []) ∷ ((22, 1, 1) ∷ []) ∷ ((23, 1, 1) ∷ [])
+    ([] ∷ ((0, 1, 0) ∷ []) ∷ ((1, 1, 32) ∷ []) ∷ ((2, 1, 4) ∷ []) ∷ ((3, 1, 101) ∷ []) ∷ ((4, 4, 4194303) ∷ []) ∷ ((22, 1, 0) ∷ []) ∷ ((22, 1, 1) ∷ [])
+    ∷ ((22, 1, 128) ∷ []) ∷ ((23, 1, 1) ∷ []) ∷ ((23, 1, 255) ∷ []) ∷ ((22, 2, 1) ∷ [])
     ∷ ((24, 4, 4194304) ∷ []) ∷ ((28, 4, 4194304) ∷ []) ∷ ((24, 4, 7) ∷ (28, 4, 8) ∷ []) ∷ [])
-    ≡ 0 ∷ 2 ∷ 2 ∷ 2 ∷ 2 ∷ 2 ∷ 2 ∷ 2 ∷ 2 ∷ 2 ∷ 0 ∷ []
+    ≡ 0 ∷ 2 ∷ 2 ∷ 2 ∷ 2 ∷ 2 ∷ 0 ∷ 0 ∷ 0 ∷ 2 ∷ 2 ∷ 2 ∷ 2 ∷ 2 ∷ 0 ∷ []
 unfolding definitions tables put largest-credential
 credential-fields = refl
 

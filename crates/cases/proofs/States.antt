@@ -66,7 +66,7 @@ unfolding definitions
 point-written = refl
 
 -- "Credential: 0 uses, 2 days (2 each), 4 last use, 8 zone, 12 entered (4 each), 16 last event (2), 18 disable (1), 20 last point (4)."
--- Document 02, job 5: "last grant at offset 24 (4 bytes".
+-- Document 02, job 4: "The credential's state gains the count at offset 19"; job 5: "last grant at offset 24 (4 bytes".
 pub credential-state :
     credentialStateOf offsets
     ≡ record {
@@ -77,6 +77,7 @@ pub credential-state :
       entered = 0x0C0D0E0F;
       «last_event» = 0x1011;
       disable = 18;
+      «wrong_tries» = 19;
       «last_point» = record { 0 = 0x14151617 };
       «last_grant» = 0x18191A1B;
     }
@@ -93,23 +94,25 @@ pub credential-written :
       entered = 0x0C0D0E0F;
       «last_event» = 0x1011;
       disable = 18;
+      «wrong_tries» = 19;
       «last_point» = record { 0 = 0x14151617 };
       «last_grant» = 0x18191A1B;
     }
-    ≡ 0 ∷ 1 ∷ 2 ∷ 3 ∷ 4 ∷ 5 ∷ 6 ∷ 7 ∷ 8 ∷ 9 ∷ 10 ∷ 11 ∷ 12 ∷ 13 ∷ 14 ∷ 15 ∷ 16 ∷ 17 ∷ 18 ∷ 0 ∷ 20 ∷ 21 ∷ 22 ∷ 23 ∷ 24 ∷ 25 ∷ 26 ∷ 27 ∷ 0 ∷ 0 ∷ 0 ∷ 0 ∷ []
+    ≡ 0 ∷ 1 ∷ 2 ∷ 3 ∷ 4 ∷ 5 ∷ 6 ∷ 7 ∷ 8 ∷ 9 ∷ 10 ∷ 11 ∷ 12 ∷ 13 ∷ 14 ∷ 15 ∷ 16 ∷ 17 ∷ 18 ∷ 19 ∷ 20 ∷ 21 ∷ 22 ∷ 23 ∷ 24 ∷ 25 ∷ 26 ∷ 27 ∷ 0 ∷ 0 ∷ 0 ∷ 0 ∷ []
 unfolding definitions
 credential-written = refl
 
--- ── a site of every kind: zone 8, point 2 with at most 3 failures, point 3 without, a rule, credential 5, and credential 6 after a factor of it
+-- ── a site of every kind: zone 8, point 2 whose most failures are 3, point 3 without, a rule, credential 5 whose most wrong tries are 4, and credential 6,
+-- without, after a factor of it
 
 unfoldable pub every-kind : List ℕ
 every-kind =
     flatten
     (zone-at 8 ∷ with-fields ((17, 1, 3) ∷ []) (point-at 2 8 4194303) ∷ point-at 3 4194303 8 ∷ rule-at 1 1 8
-    ∷ with-fields ((2, 1, 3) ∷ (16, 2, 0x0102) ∷ (18, 2, 0x0304) ∷ []) (credential-at 5) ∷ factor-at 1 6 7 ∷ credential-at 6 ∷ [])
+    ∷ with-fields ((2, 1, 3) ∷ (16, 2, 0x0102) ∷ (18, 2, 0x0304) ∷ (22, 1, 4) ∷ []) (credential-at 5) ∷ factor-at 1 6 7 ∷ credential-at 6 ∷ [])
 
--- "Fresh: uses, days, disable from the site; references NONE; last use and entered never; else zero." "Rule, factor: zero." Document 02: last grant is
--- "never when fresh".
+-- "Fresh: uses, days, disable from the site; references NONE; last use and entered never; else zero." "Rule, factor: zero." Document 02: the count of
+-- wrong tries is such a zero; last grant is "never when fresh".
 pub fresh-bytes :
     freshState every-kind (replicate 224 7)
     ≡ record {
@@ -146,7 +149,7 @@ unfolding definitions tables put records-at
 fresh-refused = refl
 
 -- ── "Well formed: unnamed bytes zero, fields in range, references NONE or existing, locked points wait for nobody, failures below the most
--- (0 if unset)."
+-- (0 if unset)." Document 02, job 4: "Well formed then includes that count below its most, 0 if unset."
 
 -- Every field at its largest; point 2 waits for credential 5, point 3 is locked.
 unfoldable pub largest-state : List ℕ
@@ -156,7 +159,8 @@ largest-state =
     ∷ record-of ((0, 4, 4294967295) ∷ (4, 1, 2) ∷ (8, 4, 4294967295) ∷ (12, 4, 4294967295) ∷ (16, 4, 5) ∷ (20, 4, 4294967295) ∷ [])
     ∷ record-of ((5, 1, 1) ∷ (16, 4, 4194303) ∷ []) ∷ record-of []
     ∷ record-of
-    ((0, 4, 4294967295) ∷ (4, 4, 4294967295) ∷ (8, 4, 8) ∷ (12, 4, 4294967295) ∷ (16, 2, 65535) ∷ (18, 1, 3) ∷ (20, 4, 2) ∷ (24, 4, 4294967295) ∷ [])
+    ((0, 4, 4294967295) ∷ (4, 4, 4294967295) ∷ (8, 4, 8) ∷ (12, 4, 4294967295) ∷ (16, 2, 65535) ∷ (18, 1, 3) ∷ (19, 1, 3) ∷ (20, 4, 2)
+    ∷ (24, 4, 4294967295) ∷ [])
     ∷ record-of [] ∷ record-of ((8, 4, 4194303) ∷ (20, 4, 4194303) ∷ []) ∷ [])
 
 unfoldable pub state-numbers : List (List Field) → List ℕ
@@ -182,12 +186,32 @@ point-well = refl
 -- last point likewise.
 pub credential-well :
     state-numbers
-    (((146, 1, 0) ∷ []) ∷ ((146, 1, 4) ∷ []) ∷ ((147, 1, 1) ∷ []) ∷ ((156, 1, 1) ∷ []) ∷ ((157, 1, 1) ∷ []) ∷ ((158, 1, 1) ∷ []) ∷ ((159, 1, 1) ∷ [])
+    (((146, 1, 0) ∷ []) ∷ ((146, 1, 4) ∷ []) ∷ ((156, 1, 1) ∷ []) ∷ ((157, 1, 1) ∷ []) ∷ ((158, 1, 1) ∷ []) ∷ ((159, 1, 1) ∷ [])
     ∷ ((152, 4, 0) ∷ []) ∷ ((152, 4, 1) ∷ []) ∷ ((152, 4, 4294967294) ∷ []) ∷ ((136, 4, 4194303) ∷ [])
     ∷ ((136, 4, 9) ∷ []) ∷ ((136, 4, 2) ∷ []) ∷ ((148, 4, 4194303) ∷ []) ∷ ((148, 4, 9) ∷ []) ∷ ((148, 4, 8) ∷ []) ∷ ((148, 4, 3) ∷ []) ∷ [])
-    ≡ 0 ∷ 6 ∷ 6 ∷ 6 ∷ 6 ∷ 6 ∷ 6 ∷ 0 ∷ 0 ∷ 0 ∷ 0 ∷ 6 ∷ 6 ∷ 0 ∷ 6 ∷ 6 ∷ 0 ∷ []
+    ≡ 0 ∷ 6 ∷ 6 ∷ 6 ∷ 6 ∷ 6 ∷ 0 ∷ 0 ∷ 0 ∷ 0 ∷ 6 ∷ 6 ∷ 0 ∷ 6 ∷ 6 ∷ 0 ∷ []
 unfolding definitions tables put records-at every-kind largest-state state-numbers
 credential-well = refl
+
+-- "that count below its most, 0 if unset": of credential 5, at byte 147, none, the last below the most, the most, above it; of credential 6, at byte 211, none
+-- and others.
+pub tries-well :
+    state-numbers
+    (((147, 1, 0) ∷ []) ∷ ((147, 1, 3) ∷ []) ∷ ((147, 1, 4) ∷ []) ∷ ((147, 1, 5) ∷ []) ∷ ((147, 1, 255) ∷ []) ∷ ((211, 1, 0) ∷ []) ∷ ((211, 1, 1) ∷ [])
+    ∷ ((211, 1, 255) ∷ []) ∷ [])
+    ≡ 0 ∷ 0 ∷ 6 ∷ 6 ∷ 6 ∷ 0 ∷ 6 ∷ 6 ∷ []
+unfolding definitions tables put records-at every-kind largest-state state-numbers
+tries-well = refl
+
+-- The same of a most and a count: the smallest most, the largest, and none set.
+pub mosts-well :
+    map
+    (λ (most, counted).
+    number (checkState (with-fields ((22, 1, most) ∷ []) (credential-at 5)) (record-of ((8, 4, 4194303) ∷ (19, 1, counted) ∷ (20, 4, 4194303) ∷ []))))
+    ((1, 0) ∷ (1, 1) ∷ (1, 2) ∷ (255, 0) ∷ (255, 254) ∷ (255, 255) ∷ (0, 0) ∷ (0, 1) ∷ (0, 255) ∷ [])
+    ≡ 0 ∷ 6 ∷ 6 ∷ 0 ∷ 0 ∷ 6 ∷ 0 ∷ 6 ∷ 6 ∷ []
+unfolding definitions tables put records-at
+mosts-well = refl
 
 -- "Rule, factor: zero": from bytes 96 and 160.
 pub zero-well :

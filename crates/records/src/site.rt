@@ -134,6 +134,27 @@ pub fn point_of(part: &[u8]) -> Point
     }
 }
 
+pub fn threat_authority_of(part: &[u8]) -> u8
+    requires { ⌜ Part (now part) ⌝ }
+    ensures { λ r. ⌜ r ≡ credentialOf (now (part .entry)) .«threat_authority» ⌝ }
+{
+    byte_at(part, layout::CREDENTIAL_THREAT_AUTHORITY)
+}
+
+pub fn first_rights_of(part: &[u8]) -> RightsId
+    requires { ⌜ Part (now part) ⌝ }
+    ensures { λ r. ⌜ r ≡ credentialOf (now (part .entry)) .«first_rights» ⌝ }
+{
+    RightsId(reference_at(part, layout::CREDENTIAL_FIRST_RIGHTS))
+}
+
+pub fn second_rights_of(part: &[u8]) -> RightsId
+    requires { ⌜ Part (now part) ⌝ }
+    ensures { λ r. ⌜ r ≡ credentialOf (now (part .entry)) .«second_rights» ⌝ }
+{
+    RightsId(reference_at(part, layout::CREDENTIAL_SECOND_RIGHTS))
+}
+
 pub fn most_wrong_tries_of(part: &[u8]) -> u8
     requires { ⌜ Part (now part) ⌝ }
     ensures { λ r. ⌜ r ≡ credentialOf (now (part .entry)) .«most_wrong_tries» ⌝ }
@@ -151,13 +172,13 @@ pub fn credential_of(part: &[u8]) -> Credential
         occupancy_exempt: flag_of(part, layout::CREDENTIAL_FLAG_OCCUPANCY_EXEMPT),
         trace: flag_of(part, layout::CREDENTIAL_FLAG_TRACE),
         extended_time: flag_of(part, layout::CREDENTIAL_FLAG_EXTENDED_TIME),
-        threat_authority: byte_at(part, layout::CREDENTIAL_THREAT_AUTHORITY),
+        threat_authority: threat_authority_of(part),
         activation: long_at(part, layout::CREDENTIAL_ACTIVATION),
         expiry: long_at(part, layout::CREDENTIAL_EXPIRY),
         absentee_days: short_at(part, layout::CREDENTIAL_ABSENTEE_DAYS),
         most_wrong_tries: most_wrong_tries_of(part),
-        first_rights: RightsId(reference_at(part, layout::CREDENTIAL_FIRST_RIGHTS)),
-        second_rights: RightsId(reference_at(part, layout::CREDENTIAL_SECOND_RIGHTS)),
+        first_rights: first_rights_of(part),
+        second_rights: second_rights_of(part),
     }
 }
 

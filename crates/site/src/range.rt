@@ -74,7 +74,7 @@ fn zone_in_range(part: &[u8]) -> bool
         & is_clear(part, layout::ZONE_SPARE, layout::ZONE_SPARE_SIZE)
 }
 
-// Its fields are read one by one: the reader of the whole point is not inlined.
+// The fields of a point, and of a credential, are read one by one: the readers of the whole are too large to be inlined in two places.
 fn point_in_range(part: &[u8]) -> bool
     requires { ⌜ length (now part) ≡ 32 ⌝ }
     ensures { λ r. ⌜ r ≡ pointInRange (now (part .entry)) ⌝ }
@@ -121,13 +121,12 @@ fn credential_in_range(part: &[u8]) -> bool
     requires { ⌜ length (now part) ≡ 32 ⌝ }
     ensures { λ r. ⌜ r ≡ credentialInRange (now (part .entry)) ⌝ }
 {
-    let c = site::credential_of(part);
     (site::flags_of(part) < layout::CREDENTIAL_FLAGS_END)
         & (site::disable_given(part) <= LARGEST_DISABLE)
-        & (c.threat_authority <= LARGEST_THREAT)
+        & (site::threat_authority_of(part) <= LARGEST_THREAT)
         & is_clear(part, layout::CREDENTIAL_SPARE_BYTE, 1)
-        & (c.first_rights.0 <= NONE)
-        & (c.second_rights.0 <= NONE)
+        & (site::first_rights_of(part).0 <= NONE)
+        & (site::second_rights_of(part).0 <= NONE)
 }
 
 fn factor_in_range(part: &[u8]) -> bool

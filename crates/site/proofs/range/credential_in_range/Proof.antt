@@ -4,6 +4,20 @@ use Rattle.model.specs.Accept.{credentialInRange}
 use Rattle.site.proofs.range.credential_in_range.Statement.{statement}
 use Rattle.site.proofs.range.credential_in_range.Tie as tie
 
-pub credential-in-range-spec : {M : Type 1} → statement M
+returns : tie.Need-returns
 unfolding credentialInRange
-credential-in-range-spec = tie.close (tie.spec (λ c κs. search needs) (λ c κs. search needs) (λ c κs. search needs) (λ c κs. search needs) (λ c. cc))
+returns c =
+    let p = c .before .before .before in
+    rw (
+      c .second-rights-of .ensures,
+      c .before .first-rights-of .ensures,
+      c .before .before .is-clear .ensures,
+      p .threat-authority-of .ensures,
+      p .before .disable-given .ensures,
+      p .before .before .flags-of .ensures,
+    )
+
+pub credential-in-range-spec : {M : Type 1} → statement M
+credential-in-range-spec =
+    tie.close (tie.spec (λ c κs. search needs) (λ c κs. search needs) (λ c κs. search needs) (λ c κs. search needs) (λ c κs. search needs)
+    (λ c κs. search needs) returns)
