@@ -133,7 +133,7 @@ guest-held = last-grant guest 5 refl
 -- Wrong tries and disable of credential 5 on the floor are those that the answers show.
 pub floor-shown : (stateLeft 5 floor .«wrong_tries» ≡ triedOf 5 floor .tries) × (stateLeft 5 floor .disable ≡ triedOf 5 floor .disable)
 unfolding codes WrongTries
-floor-shown = wrong-tries floor 5 refl
+floor-shown = wrong-tries floor 5
 
 -- Its grant, the fourth answer, found fewer than three wrong tries.
 pub floor-granted : eqb (mostTries 5 (floor .site)) 0 || ltb (triesSince 5 (triesIn 5 (floor .site) (begun floor)) (take 3 (worked floor))) (mostTries 5 (floor .site)) ≡ true

@@ -12,14 +12,14 @@ use Rattle.model.specs.Words.{if_then_else_, missing}
 use Rattle.model.specs.Numbers as n
 use Rattle.model.specs.Numbers.{NONE}
 use Rattle.model.specs.Site.{records, pointOf, credentialOf, findIn}
-use Rattle.model.specs.State.{Pair, Panel, sites, find, panel, freshWith, freshCredential, belowMost, wellFormed}
+use Rattle.model.specs.State.{Pair, Panel, sites, findBy, find, panel, credentialStateOf, freshWith, freshCredential, belowMost, wellFormed}
 use Rattle.model.specs.Entry.{entryOf, answerBytes, operationOf, objectKind, inForm}
 use Rattle.model.specs.Checks.{eventOf}
 use Rattle.model.specs.Effects.{named, isWrongTry, wrongTriesWith, reachesMost, wrongTriesAfter, disableReached, credentialAfter, answerWith, outcomeWith, outcomeOf}
 use Rattle.model.specs.Step.{noCredential, unchanged, refuse, situationOf, rulesAt, factorOutcome, countOutcome, adjusted, adjustOutcome, disableAfter, disableOutcome, locks, serviceOutcome, workedOutcome, entryOutcome, apply, panels, after, answers}
 use Rattle.model.specs.Calls.{isWorked, checkState, runReturned, runJournal}
-use Rattle.model.specs.Lists.{Run, runOn, Worked, workedBy, workedIn}
-use Rattle.model.specs.DayPasses.{isGrantOf}
+use Rattle.model.specs.Lists.{Run, runOn, Worked, workedBy, workedIn, History}
+use Rattle.model.specs.DayPasses.{isGrantOf, stateLeft}
 use Rattle.model.specs.WrongTries.{isTryOf, setsDisable, isDisableOf, Tried, tried, triedOnce, triedBy, triedAfter, mostTries, triedOf, triesIn, triesSince}
 use Rattle.model.specs.Demands.{WrongTries, GrantBelowMost}
 use Rattle.model.specs.declared.Credential.{Credential}
@@ -32,8 +32,8 @@ use Rattle.model.specs.declared.Operation.{Operation}
 use Rattle.model.specs.declared.Operation.the-variants.{Factor, SetCount, AdjustCount, SetDisable, SetService, Unknown}
 use Rattle.model.proofs.Laws.{if-holds, There, find-in, sites-apply}
 use Rattle.model.proofs.RoundTrip.{event-back, refusal-back, credential-named-back}
-use Rattle.model.proofs.Flat.{freshPanel, sites-fresh, sites-panel}
-use Rattle.model.proofs.Runs.{real-number, worked-through, site-accepted, object-found, object-real, object-there, workedAt, entriesIn, list-worked, allEntries, worked-list}
+use Rattle.model.proofs.Flat.{freshPanel, sites-fresh, sites-after, sites-panel}
+use Rattle.model.proofs.Runs.{real-number, worked-through, site-accepted, accepted, workedAt, entriesIn, list-worked, allEntries, worked-list}
 use Rattle.model.proofs.Well.{credential-found}
 use Rattle.model.proofs.KeptWell.{Taken, state-taken}
 use Rattle.model.proofs.Outcomes.{entry-holds}
@@ -254,13 +254,87 @@ module _ (c : ℕ) (not-none : eqb c NONE ≡ false) (most : ℕ) where
 
 -- ── lists of runs from fresh
 
-pub wrong-tries : WrongTries
-unfolding WrongTries triedOf mostTries freshCredential freshWith
-wrong-tries h c x =
+-- A credential of the site.
+tried-there : (h : History) (c : ℕ) → missing (findIn (isCredential c) (records (h .site))) ≡ false → triedIn (stateLeft c h) ≡ triedOf c h
+unfolding triedOf mostTries freshCredential freshWith
+tried-there h c g =
     let ss = records (h .site) in
-    let t = tried-entries c (object-real h n.access-credential c x) (mostTries c (h .site)) (allEntries h) (freshPanel ss) (object-there h n.access-credential c x) (rw (sites-fresh ss)) in
-    let u = rw (held-fresh c ss (object-found h n.access-credential c x)) at t in
-    rw (state-left h c, worked-list h) (ap (λ (k : Tried). k .tries) u, ap (λ (k : Tried). k .disable) u)
+    let real = real-number n.access-credential c ss (accepted h .in-range) g in
+    let t = tried-entries c real (mostTries c (h .site)) (allEntries h) (freshPanel ss) (rw (sites-fresh ss) g) (rw (sites-fresh ss)) in
+    rw (state-left h c, worked-list h) (rw (held-fresh c ss g) at t)
+
+-- A record that is missing is empty.
+not-there : (s : List ℕ) → missing s ≡ true → s ≡ []
+not-there [] g = refl
+not-there (x ∷ s) g = cc
+
+-- A number that no credential of the site has: nothing is found of it.
+nobody-found : (c : ℕ) (ps : Panel) → missing (findBy (isCredential c) ps .0) ≡ true → findBy (isCredential c) ps ≡ ([], [])
+nobody-found c [] g = refl
+nobody-found c (x ∷ xs) g = go (isCredential c (x .0)) refl g (nobody-found c xs)
+  where
+    empty : (s : List ℕ) → missing s ≡ true → isCredential c s ≡ true → true ≡ false
+    empty [] m a = unfold field in sym a
+    empty (y ∷ s) m a = sym m
+
+    go : (b : Bool) → isCredential c (x .0) ≡ b → missing ((if b then x else findBy (isCredential c) xs) .0) ≡ true →
+        (missing (findBy (isCredential c) xs .0) ≡ true → findBy (isCredential c) xs ≡ ([], [])) →
+        (if b then x else findBy (isCredential c) xs) ≡ ([], [])
+    go true a m ih = absurd (true≢false (empty (x .0) m a))
+    go false a m ih = ih m
+
+module _ (c : ℕ) where
+  -- No operation 4 on it is accepted.
+  nobody-disabled : (e : Entry) (ps : Panel) → missing (find n.access-credential c ps .0) ≡ true →
+      disables c (operationOf (e .operation)) e (entryOutcome ps e .answer) ≡ false
+  unfolding refuse unchanged
+  nobody-disabled e ps g =
+      entry-holds (λ o (u : Outcome). disables c o e (u .answer) ≡ false) ps e (λ o r d. simp (d, and-false)) (λ o x f i m. worked o x f m)
+    where
+      named-there : (b : Bool) → eqb (e .instance) c ≡ b → missing (find n.access-credential (e .instance) ps .0) ≡ false → b ≡ false
+      named-there true p m = rw (eqb-true (e .instance) c p, g) at m
+      named-there false p m = refl
+
+      worked : (o : Operation) (x : Pair) → find (objectKind o) (e .instance) ps ≡ x → missing (x .0) ≡ false →
+          disables c o e (workedOutcome o ps e x .answer) ≡ false
+      worked Factor x f m = refl
+      worked SetCount x f m = refl
+      worked AdjustCount x f m = refl
+      worked SetDisable x f m = rw (named-there _ refl (rw f m))
+      worked SetService x f m = refl
+      worked Unknown x f m = refl
+
+  -- So no entry shows anything of it.
+  nobody-tried : (bs : List (List ℕ)) (ps : Panel) → missing (findIn (isCredential c) (sites ps)) ≡ true →
+      triedAfter 0 c (tried 0 0) (workedAt ps bs) ≡ tried 0 0
+  unfolding triedAfter workedAt panels answers triedWith find
+  nobody-tried [] ps g = refl
+  nobody-tried (b ∷ bs) ps g =
+      let e = entryOf b in
+      let o = entryOutcome ps e in
+      let d = nobody-disabled e ps (rw (find-in (isCredential c) ps) g) in
+      let t = rw d at (tried-answer 0 c ps b (o .answer) (tried 0 0)) in
+      ap (λ k. triedAfter 0 c k (workedAt (apply o ps) bs)) (t ∙ if-holds (λ k. k ≡ tried 0 0) (grants c (o .answer)) (tried 0 0) (tried 0 0) refl refl)
+      ∙ nobody-tried bs (apply o ps) (rw sites-apply g)
+
+  tried-nobody : (h : History) → missing (findIn (isCredential c) (records (h .site))) ≡ true → triedIn (stateLeft c h) ≡ triedOf c h
+  unfolding held find credentialStateOf triedOf mostTries credentialOf field
+  tried-nobody h g =
+      let ss = records (h .site) in
+      let ps = after (freshPanel ss) (map entryOf (allEntries h)) in
+      let found = nobody-found c ps (rw (find-in (isCredential c) ps, sites-after (map entryOf (allEntries h)) (freshPanel ss), sites-fresh ss) g) in
+      rw (state-left h c, found, not-there (findIn (isCredential c) ss) g, worked-list h)
+      (sym (nobody-tried (allEntries h) (freshPanel ss) (rw (sites-fresh ss) g)))
+
+pub wrong-tries : WrongTries
+unfolding WrongTries
+wrong-tries h c =
+    let t = either (missing (findIn (isCredential c) (records (h .site)))) refl in
+    (ap (λ (k : Tried). k .tries) t, ap (λ (k : Tried). k .disable) t)
+  where
+    either : (b : Bool) → missing (findIn (isCredential c) (records (h .site))) ≡ b → triedIn (stateLeft c h) ≡ triedOf c h
+    either true g = tried-nobody c h g
+    either false g = tried-there h c g
 
 -- ── lists of runs on any state
 
@@ -269,12 +343,6 @@ none-worked : (site : List ℕ) (rs : List Run) (state : List ℕ) → isWorked 
 unfolding workedIn workedBy runOn runJournal runReturned
 none-worked site [] state h = refl
 none-worked site (r ∷ rs) state h = rw (h, h) (none-worked site rs state h)
-
--- A credential that is not there has no most.
-no-most : (s : List ℕ) → missing s ≡ true → credentialOf s .«most_wrong_tries» ≡ 0
-unfolding credentialOf field
-no-most [] g = refl
-no-most (x ∷ s) g = cc
 
 -- In a well-formed state a credential's wrong tries are below its most.
 below-taken : (site state : List ℕ) (c : ℕ) → Taken site state → eqb (mostTries c site) 0 ≡ false →
@@ -300,7 +368,7 @@ grant-below-most site state rs c before later w s k = taken (isWorked (checkStat
         (sym (list-worked site (a .whole-records) rs state (t .as-long)) ∙ s) k
 
     there : Taken site state → (b : Bool) → missing (findIn (isCredential c) (records site)) ≡ b → Finds
-    there t true g = unfold mostTries in rw (no-most _ g)
+    there t true g = unfold mostTries credentialOf field in rw (not-there (findIn (isCredential c) (records site)) g)
     there t false g = counted t g _ refl
 
     taken : (b : Bool) → isWorked (checkState site state) ≡ b → Finds

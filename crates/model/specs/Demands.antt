@@ -140,8 +140,7 @@ DaysOfAdmission =
 -- entries and their answers show.
 unfoldable pub WrongTries : Type 0
 WrongTries =
-    (h : History) (c : ℕ) → exists (records (h .site)) n.access-credential c ≡ true →
-    (stateLeft c h .«wrong_tries» ≡ triedOf c h .tries) × (stateLeft c h .disable ≡ triedOf c h .disable)
+    (h : History) (c : ℕ) → (stateLeft c h .«wrong_tries» ≡ triedOf c h .tries) × (stateLeft c h .disable ≡ triedOf c h .disable)
 
 -- A grant is earned, over every list of runs on any state: whenever a credential is granted, it has not reached its most since its wrong tries were last
 -- zeroed by a grant or operation 4.

@@ -8,13 +8,14 @@ returns : tie.Need-returns
 unfolding credentialInRange
 returns c =
     let p = c .before .before .before in
+    let q = p .before .before in
     rw (
-      c .second-rights-of .ensures,
-      c .before .first-rights-of .ensures,
-      c .before .before .is-clear .ensures,
-      p .threat-authority-of .ensures,
-      p .before .disable-given .ensures,
-      p .before .before .flags-of .ensures,
+      c .before .second-rights-of .ensures,
+      p .first-rights-of .ensures,
+      p .before .is-clear .ensures,
+      q .threat-authority-of .ensures,
+      q .before .disable-given .ensures,
+      q .before .before .flags-of .ensures,
     )
 
 pub credential-in-range-spec : {M : Type 1} → statement M
