@@ -28,8 +28,7 @@ pub fn is_failure(v: Situation, x: u16) -> bool
     ensures { λ r. ⌜ r ≡ isFailure v x ⌝ }
 {
     (v.point.most_failures != 0)
-        & ((x == DENIED_UNKNOWN_CREDENTIAL)
-            | (x == DENIED_AUTHENTICATION_FACTOR_ERROR))
+        & ((x == DENIED_UNKNOWN_CREDENTIAL) | (x == DENIED_AUTHENTICATION_FACTOR_ERROR))
 }
 
 // The failures so far: none where the lock was relinquished.

@@ -10,13 +10,13 @@ use Rattle.octets.specs.Octets.{field}
 use Rattle.model.specs.Words.{if_then_else_, all, missing}
 use Rattle.model.specs.Numbers as n
 use Rattle.model.specs.Numbers.{NONE}
-use Rattle.model.specs.Site.{records, kind, instance, reference, zoneOf, pointOf, isAt, findIn}
+use Rattle.model.specs.Site.{records, instance, reference, zoneOf, pointOf, isAt, findIn}
 use Rattle.model.specs.Accept.{inRange, pointInRange}
 use Rattle.model.specs.State.{Pair, Panel, sites, find, seek, write, count, zoneBytes, freshRecord}
-use Rattle.model.specs.Entry.{entryOf, operationOf, objectKind, inForm, answerBytes}
+use Rattle.model.specs.Entry.{entryOf, operationOf, objectKind, answerBytes}
 use Rattle.model.specs.Checks.{eventOf}
 use Rattle.model.specs.Effects.{counts, countAfter, answerWith, outcomeWith, outcomeOf}
-use Rattle.model.specs.Step.{noCount, unchanged, refuse, zoneTo, zoneFrom, situationOf, rulesAt, factorOutcome, countOutcome, isNegative, adjusted, adjustOutcome, disableOutcome, serviceOutcome, workedOutcome, outcomeAs, entryOutcome, apply, panels, after, answers}
+use Rattle.model.specs.Step.{noCount, unchanged, refuse, zoneTo, zoneFrom, situationOf, rulesAt, factorOutcome, countOutcome, isNegative, adjusted, adjustOutcome, disableOutcome, serviceOutcome, workedOutcome, entryOutcome, apply, panels, after, answers}
 use Rattle.model.specs.Tally.{Tally, move, setTo, signed, passed, talliedAs, tallied, tally, tallyOf, standing, countOf}
 use Rattle.model.specs.Demands.{Count}
 use Rattle.model.specs.declared.Entry.{Entry}

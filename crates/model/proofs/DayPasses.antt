@@ -1,35 +1,34 @@
 -- Day passes: last grant, and days left beside the dates of the credential's grants, after every list of runs from fresh.
 use Prim.Native.Nat.{ℕ, suc, _+_, _-_, _/_, _<_}
 use native.Mathlib.Omega.{arith}
-use mathlib.Core.Path.{_≡_, refl, sym, _∙_}
+use mathlib.Core.Path.{_≡_, refl, _∙_}
 use mathlib.Core.List.{List, [], _∷_, map}
 use mathlib.Core.Bool.{Bool, true, false, not, _&&_, _||_, and-false, false≢true}
 use lib.Dec.{ltb, leb, eqb}
 use borrow.Author.Tests.{eqb-true, eqb-false, eq-eqb, ne-eqb, ltb-true, ltb-false, leb-true, le-leb, not-true}
-use Rattle.model.specs.Words.{if_then_else_, any, all, bitOf, missing}
+use Rattle.model.specs.Words.{if_then_else_, any, all, bitOf}
 use Rattle.model.specs.Numbers as n
 use Rattle.model.specs.Numbers.{NONE, NEVER, UNLIMITED}
-use Rattle.model.specs.Site.{credentialId, records, pointOf, isAt, findIn}
-use Rattle.model.specs.State.{Pair, Panel, find, seek, write, zoneBytes, credentialStateOf, credentialBytes, freshWith, freshCredential, freshRecord}
-use Rattle.model.specs.Entry.{entryOf, operationOf, objectKind, argumentsFit, inForm}
-use Rattle.model.specs.Checks.{waiting, eventOf}
+use Rattle.model.specs.Site.{records, pointOf}
+use Rattle.model.specs.State.{Pair, Panel, find, credentialStateOf, freshWith, freshCredential}
+use Rattle.model.specs.Entry.{entryOf, objectKind, argumentsFit, inForm}
+use Rattle.model.specs.Checks.{eventOf}
 use Rattle.model.specs.Effects.{named, date, losesDay, daysAfter, credentialAfter, answerWith, outcomeWith, outcomeOf}
-use Rattle.model.specs.Step.{noCredential, unchanged, refuse, credentialAt, situationOf, rulesAt, factorOutcome, countOutcome, adjusted, adjustOutcome, disableAfter, disableOutcome, locks, serviceOutcome, workedOutcome, outcomeAs, entryOutcome, apply, panels, after, answers}
+use Rattle.model.specs.Step.{noCredential, unchanged, refuse, situationOf, rulesAt, factorOutcome, countOutcome, adjusted, adjustOutcome, disableAfter, disableOutcome, locks, serviceOutcome, workedOutcome, entryOutcome, apply, panels, after, answers}
 use Rattle.model.specs.Lists.{Worked, History}
-use Rattle.model.specs.DayPasses.{isGrantOf, grantTimes, timesGranted, datesGranted, daysInSite, stateLeft, lastOf, takenSince, daysTaken, neverFall, different}
+use Rattle.model.specs.DayPasses.{isGrantOf, grantTimes, timesGranted, datesGranted, daysInSite, lastOf, takenSince, daysTaken, neverFall, different}
 use Rattle.model.specs.Demands.{LastGrant, DaysTaken, DaysOfAdmission}
 use Rattle.model.specs.declared.Situation.{Situation}
 use Rattle.model.specs.declared.Entry.{Entry}
-use Rattle.model.specs.declared.Answer.{Answer}
 use Rattle.model.specs.declared.Outcome.{Outcome}
 use Rattle.model.specs.declared.CredentialState.{CredentialState}
 use Rattle.model.specs.declared.Operation.{Operation}
 use Rattle.model.specs.declared.Operation.the-variants.{Factor, SetCount, AdjustCount, SetDisable, SetService, Unknown}
-use Rattle.model.proofs.Laws.{if-holds, and-left, and-right, kind-at, There, sites-write, sites-apply, find-write-other, find-write-same, found-in}
+use Rattle.model.proofs.Laws.{if-holds, and-left, and-right, There, sites-apply}
 use Rattle.model.proofs.Outcomes.{entry-holds}
-use Rattle.model.proofs.RoundTrip.{credential-back, event-back, credential-named-back}
-use Rattle.model.proofs.Flat.{freshPanel, find-fresh}
-use Rattle.model.proofs.Runs.{object-found, object-real, object-there, workedAt, allEntries, ended-panel, worked-list}
+use Rattle.model.proofs.RoundTrip.{event-back, credential-named-back}
+use Rattle.model.proofs.Flat.{freshPanel}
+use Rattle.model.proofs.Runs.{object-found, object-real, object-there, workedAt, allEntries, worked-list}
 use Rattle.model.proofs.Granted.{granted-days}
 use Rattle.model.proofs.Credentials.{held, heldBy, held-apply, grants, named-number, state-read, held-fresh, state-left}
 

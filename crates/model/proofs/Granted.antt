@@ -14,10 +14,10 @@ use Rattle.model.specs.Numbers as n
 use Rattle.model.specs.Numbers.{NONE}
 use Rattle.model.specs.Site.{pointId, credentialId, records, kind, instance, enabled, negative, role, pointOf, isAt, findIn}
 use Rattle.model.specs.State.{Pair, Panel, sites, find, pointStateOf, count, recordWell, panel, wellFormed}
-use Rattle.model.specs.Entry.{entryOf, entries, operationOf, objectKind, inForm}
+use Rattle.model.specs.Entry.{entryOf, entries, operationOf, objectKind}
 use Rattle.model.specs.Checks.{stillLocked, waiting, overdue, presents, identifying, confirming, factorFor, credentialRead, disabledFactor, firstOfTwo, authenticationOf, authentication, inactive, validityOf, validity, ofRights, enabledRule, locationFits, timeFits, verdict, passbackViolated, atLowerLimit, atUpperLimit, authorizationOf, authorization, passage, permission, entitlement, eventOf}
 use Rattle.model.specs.Effects.{named, answerWith, outcomeWith, outcomeOf}
-use Rattle.model.specs.Step.{noAnswer, zoneTo, unchanged, refuse, factorRead, numberRead, situationOf, rulesAt, factorOutcome, countOutcome, adjusted, adjustOutcome, disableOutcome, locks, serviceOutcome, workedOutcome, outcomeAs, entryOutcome, after, credentialAt}
+use Rattle.model.specs.Step.{noAnswer, zoneTo, unchanged, refuse, factorRead, numberRead, situationOf, rulesAt, factorOutcome, countOutcome, adjusted, adjustOutcome, disableOutcome, locks, serviceOutcome, workedOutcome, entryOutcome, after, credentialAt}
 use Rattle.model.specs.Earned.{FittingRule, forbidden, Authorized, EarnedAt, Earned}
 use Rattle.model.specs.Calls.{freshReturned}
 use Rattle.model.specs.Lists.{runOn, firstOf, eventIn, credentialIn}

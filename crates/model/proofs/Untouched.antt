@@ -3,16 +3,15 @@ use Prim.Native.Nat.{ℕ, suc, _<_, _/_}
 use native.Mathlib.Omega.{arith}
 use mathlib.Core.Path.{_≡_, refl, sym, _∙_, ap}
 use mathlib.Core.List.{List, [], _∷_, map}
-use mathlib.Core.Bool.{false, not}
+use mathlib.Core.Bool.{false}
 use lib.Dec.{ltb, eqb}
 use lib.ListN.{length, take, getD, length-map, List·getD-map}
 use lib.Seq.{take-suc}
-use Rattle.model.specs.Words.{if_then_else_, missing}
 use Rattle.model.specs.Site.{pointOf}
-use Rattle.model.specs.State.{Pair, Panel, panel, stateOf, find, write}
-use Rattle.model.specs.Entry.{entryOf, entries, answerBytes, operationOf, objectKind, inForm}
+use Rattle.model.specs.State.{Pair, Panel, panel, stateOf, write}
+use Rattle.model.specs.Entry.{entryOf, entries, answerBytes}
 use Rattle.model.specs.Effects.{answerWith, outcomeWith, outcomeOf}
-use Rattle.model.specs.Step.{noPoint, noCredential, noCount, noAnswer, unchanged, refuse, factorOutcome, countOutcome, adjusted, adjustOutcome, disableOutcome, serviceOutcome, workedOutcome, outcomeAs, entryOutcome, apply, after}
+use Rattle.model.specs.Step.{noPoint, noCredential, noCount, noAnswer, unchanged, refuse, factorOutcome, countOutcome, adjusted, adjustOutcome, disableOutcome, serviceOutcome, workedOutcome, entryOutcome, apply, after}
 use Rattle.model.specs.Calls.{freshState, runJournal}
 use Rattle.model.specs.Lists.{runOn, refusalIn}
 use Rattle.model.specs.Demands.{TurnedBack, Refused}

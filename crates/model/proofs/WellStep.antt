@@ -10,11 +10,11 @@ use Rattle.model.specs.Numbers as n
 use Rattle.model.specs.Numbers.{NONE}
 use Rattle.model.specs.Site.{zoneId, credentialId, pointOf, credentialOf, isAt, findIn}
 use Rattle.model.specs.Accept.{exists, noneOrExists, namesExist}
-use Rattle.model.specs.State.{Pair, Panel, sites, find, seek, store, write, zoneBytes, pointStateOf, pointBytes, credentialStateOf, credentialBytes, belowMost, recordWell}
-use Rattle.model.specs.Entry.{operationOf, objectKind, inForm}
+use Rattle.model.specs.State.{Pair, Panel, sites, find, store, write, zoneBytes, pointStateOf, pointBytes, credentialStateOf, credentialBytes, belowMost, recordWell}
+use Rattle.model.specs.Entry.{objectKind, inForm}
 use Rattle.model.specs.Checks.{relinquished, stillLocked, waiting, authenticationOf, intoZone, eventOf}
 use Rattle.model.specs.Effects.{named, isFailure, failuresBefore, failuresWith, locksOut, pointAfter, isWrongTry, wrongTriesWith, reachesMost, wrongTriesAfter, disableReached, zoneAfter, credentialAfter, outcomeWith, outcomeOf}
-use Rattle.model.specs.Step.{noPoint, noCredential, unchanged, refuse, factorRead, numberRead, credentialAt, situationOf, rulesAt, factorOutcome, countOutcome, adjusted, adjustOutcome, disableAfter, disableOutcome, locks, serviceAfter, serviceOutcome, workedOutcome, outcomeAs, entryOutcome, apply, after}
+use Rattle.model.specs.Step.{noPoint, noCredential, unchanged, refuse, factorRead, numberRead, credentialAt, situationOf, rulesAt, factorOutcome, countOutcome, adjusted, adjustOutcome, disableAfter, disableOutcome, locks, serviceAfter, serviceOutcome, workedOutcome, entryOutcome, apply, after}
 use Rattle.model.proofs.Laws.{if-holds, and-left, and-right, or-right, kind-at, find-in, all-write, sites-write, sites-apply}
 use Rattle.model.proofs.Outcomes.{entry-holds}
 use Rattle.model.proofs.Credentials.{credential-read}

@@ -13,7 +13,7 @@ use Rattle.model.specs.Numbers as n
 use Rattle.model.specs.Numbers.{NONE}
 use Rattle.model.specs.Site.{records, pointOf, credentialOf, findIn}
 use Rattle.model.specs.State.{Pair, Panel, sites, findBy, find, panel, credentialStateOf, freshWith, freshCredential, belowMost, wellFormed}
-use Rattle.model.specs.Entry.{entryOf, answerBytes, operationOf, objectKind, inForm}
+use Rattle.model.specs.Entry.{entryOf, answerBytes, operationOf, objectKind}
 use Rattle.model.specs.Checks.{eventOf}
 use Rattle.model.specs.Effects.{named, isWrongTry, wrongTriesWith, reachesMost, wrongTriesAfter, disableReached, credentialAfter, answerWith, outcomeWith, outcomeOf}
 use Rattle.model.specs.Step.{noCredential, unchanged, refuse, situationOf, rulesAt, factorOutcome, countOutcome, adjusted, adjustOutcome, disableAfter, disableOutcome, locks, serviceOutcome, workedOutcome, entryOutcome, apply, panels, after, answers}
@@ -218,10 +218,10 @@ below-next c most set o e a since t h = rw set (go (disables c o e a) (grants c 
 
     go : (d g m r : Bool) → leb most (t .tries + 1) ≡ r →
         let u =
-            if d then tried 0 (e .argument) else
-            if g then tried 0 (t .disable) else
-            if m then (if r then tried 0 n.disable-lockout else tried (t .tries + 1) (t .disable)) else
-            t in
+        if d then tried 0 (e .argument) else
+        if g then tried 0 (t .disable) else
+        if m then (if r then tried 0 n.disable-lockout else tried (t .tries + 1) (t .disable)) else
+        t in
         let k = if d || g then 0 else if m then since + 1 else since in
         eqb (u .disable) n.disable-lockout ≡ false → (u .tries ≡ k) × (ltb k most ≡ true)
     go true g m r l f = (refl, zero-below)
