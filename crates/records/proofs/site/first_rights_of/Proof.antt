@@ -6,4 +6,4 @@ use Rattle.records.proofs.site.first_rights_of.Tie as tie
 
 pub first-rights-of-spec : {M : Type 1} → statement M
 unfolding credentialOf
-first-rights-of-spec = tie.close (tie.spec (λ c κs. search needs) (λ c. cc))
+first-rights-of-spec = tie.close (tie.spec (λ c κs. search needs) (λ c. rw (c .reference-at .ensures)))

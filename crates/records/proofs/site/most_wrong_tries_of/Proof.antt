@@ -6,4 +6,4 @@ use Rattle.records.proofs.site.most_wrong_tries_of.Tie as tie
 
 pub most-wrong-tries-of-spec : {M : Type 1} → statement M
 unfolding credentialOf
-most-wrong-tries-of-spec = tie.close (tie.spec (λ c κs. search needs) (λ c. cc))
+most-wrong-tries-of-spec = tie.close (tie.spec (λ c κs. search needs) (λ c. rw (c .byte-at .ensures)))

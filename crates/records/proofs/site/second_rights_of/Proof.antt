@@ -6,4 +6,4 @@ use Rattle.records.proofs.site.second_rights_of.Tie as tie
 
 pub second-rights-of-spec : {M : Type 1} → statement M
 unfolding credentialOf
-second-rights-of-spec = tie.close (tie.spec (λ c κs. search needs) (λ c. cc))
+second-rights-of-spec = tie.close (tie.spec (λ c κs. search needs) (λ c. rw (c .reference-at .ensures)))

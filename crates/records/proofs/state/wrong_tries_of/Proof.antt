@@ -6,4 +6,4 @@ use Rattle.records.proofs.state.wrong_tries_of.Tie as tie
 
 pub wrong-tries-of-spec : {M : Type 1} → statement M
 unfolding credentialStateOf
-wrong-tries-of-spec = tie.close (tie.spec (λ c κs. search needs) (λ c. cc))
+wrong-tries-of-spec = tie.close (tie.spec (λ c κs. search needs) (λ c. rw (c .byte-at .ensures)))
