@@ -56,12 +56,13 @@ pub record Counted : Type 0 where
       late (most-tries 0 ∷ []) [] ++ wrong (most-tries 0 ∷ []) []
       ≡ alone 0x0083_01_00_0000000B_00000005_00000000 0x0009_0008_00000407_003FFFFF_00000258_0083_00_00_00000002_0000028A_00000000
       ++ alone 0x0084_01_00_0000000B_00000005_00000000 0x0009_0008_00000406_003FFFFF_00000258_0084_00_00_00000002_0000028A_00000000
-  -- "not on the point": two failures of three, the first long before the window; where the card's most is set, and where it is not.
+  -- "not on the point": two failures of three, the first long before the point's window, which is not the card's; where the card's most is set, with a try
+  -- before this one, and where it is not.
   point-left :
-      awaiting (most 3 ∷ window 10 ∷ []) [] (failures 2 ∷ []) [] (types 1031 0x66 ∷ [])
+      awaiting (most 3 ∷ window 10 ∷ []) [] (failures 2 ∷ []) (tries 1 ∷ []) (types 1031 0x66 ∷ [])
       ++ awaiting (most 3 ∷ window 10 ∷ []) (most-tries 0 ∷ []) (failures 2 ∷ []) [] (types 1030 0x67 ∷ [])
       ≡ 0x0083_01_00_0000000B_00000005_00000000 ∷ 0x0000000B_02_00_0000_000003E8_00000384_003FFFFF_000003E8_0000000000000000
-      ∷ 0x0009_0008_00000407_003FFFFF_00000258_0083_00_01_00000002_0000028A_00000000 ∷ 0 ∷ 0
+      ∷ 0x0009_0008_00000407_003FFFFF_00000258_0083_00_02_00000002_0000028A_00000000 ∷ 0 ∷ 0
       ∷ 0x0084_01_00_0000000B_00000005_00000000 ∷ 0x0000000B_02_00_0000_000003E8_00000384_003FFFFF_000003E8_0000000000000000
       ∷ 0x0009_0008_00000406_003FFFFF_00000258_0084_00_00_00000002_0000028A_00000000 ∷ 0 ∷ 0 ∷ []
   -- The point's most is not asked; nor whether it wants two factors, where it waits.
