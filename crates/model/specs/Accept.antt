@@ -51,7 +51,7 @@ ruleInRange s =
     ltb (flags s) 16 && ltb (weekdays s) 128 && locationInRange s && leb (fromMinute s) minutes-of-day
     && leb (toMinute s) minutes-of-day && clear 16 16 s
 
--- A credential: five flags; disable 0 to 3; threat authority 0..100; rights numbers or NONE.
+-- A credential: five flags; disable 0 to 3; threat authority 0..100; rights numbers or NONE. Document 02, job 4: offset 22 has a name, and any value.
 unfoldable pub credentialInRange : List ℕ → Bool
 credentialInRange s =
     ltb (flags s) 32 && leb (disableGiven s) largest-disable && leb (credentialOf s .«threat_authority») largest-threat

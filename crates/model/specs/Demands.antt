@@ -1,6 +1,6 @@
 -- What is proved over the definitions, by `freshState` and `runJournal` themselves: each statement is a type, and proofs/ has a theorem of it. The
--- count, the part, the well-formed state and the days are about whole lists of runs from fresh, rewritten shifts about lists of runs on any state; the
--- others about every site, state and run.
+-- count, the part, the well-formed state, the days and the wrong tries are about whole lists of runs from fresh, rewritten shifts and the wrong tries that
+-- a grant finds about lists of runs on any state; the others about every site, state and run.
 use Prim.Native.Nat.{ℕ, suc, _+_, _/_, _<_}
 use mathlib.Core.Path.{_≡_}
 use mathlib.Core.List.{List, [], _∷_, _++_, map}
