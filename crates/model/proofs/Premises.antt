@@ -234,10 +234,14 @@ staffed-left : leftOutTests (part nothing nothing) staffed ≡ false ∷ true �
 unfolding definitions examples watched staffed parts
 staffed-left = refl
 
--- Zone 9 is the part's, and a point across the border leads into it.
+-- Zone 9 is the part's, and a point across the border leads into it, or out of it.
 entered-left : leftOutTests (part (λ i. eqb i 9) nothing) entered-from-outside ≡ false ∷ true ∷ true ∷ false ∷ false ∷ true ∷ []
 unfolding definitions examples wing strangers entered-from-outside parts
 entered-left = refl
+
+emptied-left : leftOutTests (part (λ i. eqb i 9) nothing) left-from-outside ≡ false ∷ true ∷ true ∷ true ∷ false ∷ true ∷ []
+unfolding definitions examples wing strangers left-from-outside parts
+emptied-left = refl
 
 -- The reads: the part's card is read across the border; a card from there, which is disabled there, is read at the part's point.
 strayed-left : leftOutTests (part nothing nothing) strayed ≡ true ∷ false ∷ true ∷ true ∷ false ∷ true ∷ []
