@@ -47,8 +47,8 @@ abbrev triedIn : CredentialState → Tried
 triedIn s = tried (s .«wrong_tries») (s .disable)
 
 -- The answer is a wrong try of the credential c.
-abbrev misses : ℕ → Answer → Bool
-misses c a = (eqb (a .event) n.denied-authentication-factor-timeout || eqb (a .event) n.denied-incorrect-authentication-factor) && eqb (a .credential .0) c
+abbrev isTry : ℕ → Answer → Bool
+isTry c a = (eqb (a .event) n.denied-authentication-factor-timeout || eqb (a .event) n.denied-incorrect-authentication-factor) && eqb (a .credential .0) c
 
 -- The answer accepts an operation 4 on it.
 abbrev disables : ℕ → Operation → Entry → Answer → Bool
@@ -59,7 +59,7 @@ unfoldable triedWith : ℕ → ℕ → Operation → Entry → Answer → Tried 
 triedWith most c o e a t =
     if disables c o e a then tried 0 (e .argument) else
     if grants c a then tried 0 (t .disable) else
-    if not (eqb most 0) && misses c a then triedOnce most t else
+    if not (eqb most 0) && isTry c a then triedOnce most t else
     t
 
 tried-answer : (most c : ℕ) (ps : Panel) (b : List ℕ) (a : Answer) (t : Tried) →
@@ -75,9 +75,9 @@ record Tries (most c : ℕ) (e : Entry) (s : CredentialState) (o : Operation) (u
   enabled : grants c (u .answer) ≡ true → eqb (s .disable) n.disable-lockout ≡ false
 
 module _ (most c : ℕ) (e : Entry) (s : CredentialState) where
-  -- An outcome that writes no credential, neither grants nor misses, and is no accepted operation 4.
+  -- An outcome that writes no credential, neither grants nor is a wrong try, and is no accepted operation 4.
   tries-none : (o : Operation) (u : Outcome) → u .credential ≡ noCredential → disables c o e (u .answer) ≡ false → grants c (u .answer) ≡ false →
-      misses c (u .answer) ≡ false → Tries most c e s o u
+      isTry c (u .answer) ≡ false → Tries most c e s o u
   unfolding heldBy noCredential triedWith
   tries-none o u k d g m = record { left = simp (k, d, g, m, and-false); enabled = λ h. absurd (false≢true (rw g at h)) }
 
@@ -206,12 +206,12 @@ Below most since t = eqb (t .disable) n.disable-lockout ≡ false → (t .tries 
 
 -- Those since they were last zeroed, after one entry.
 abbrev sinceWith : ℕ → Operation → Entry → Answer → ℕ → ℕ
-sinceWith c o e a since = if disables c o e a || grants c a then 0 else if misses c a then since + 1 else since
+sinceWith c o e a since = if disables c o e a || grants c a then 0 else if isTry c a then since + 1 else since
 
 below-next : (c most : ℕ) → eqb most 0 ≡ false → (o : Operation) (e : Entry) (a : Answer) (since : ℕ) (t : Tried) → Below most since t →
     Below most (sinceWith c o e a since) (triedWith most c o e a t)
 unfolding Below triedWith triedOnce
-below-next c most set o e a since t h = rw set (go (disables c o e a) (grants c a) (misses c a) (leb most (t .tries + 1)) refl)
+below-next c most set o e a since t h = rw set (go (disables c o e a) (grants c a) (isTry c a) (leb most (t .tries + 1)) refl)
   where
     zero-below : ltb 0 most ≡ true
     zero-below = lt-ltb 0 most (let z = eqb-false most 0 set in omega arith)
@@ -359,7 +359,8 @@ grant-below-most site state rs c before later w s k = taken (isWorked (checkStat
     Finds : Type 0
     Finds = eqb (mostTries c site) 0 || ltb (triesSince c (triesIn c site state) before) (mostTries c site) ≡ true
 
-    counted : Taken site state → missing (findIn (isCredential c) (records site)) ≡ false → (b : Bool) → eqb (mostTries c site) 0 ≡ b → b || ltb (triesSince c (triesIn c site state) before) (mostTries c site) ≡ true
+    counted : Taken site state → missing (findIn (isCredential c) (records site)) ≡ false → (b : Bool) → eqb (mostTries c site) 0 ≡ b →
+        b || ltb (triesSince c (triesIn c site state) before) (mostTries c site) ≡ true
     counted t g true z = refl
     counted t g false z =
         let a = site-accepted site (t .site-accepts) in
