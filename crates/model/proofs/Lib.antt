@@ -29,4 +29,5 @@ pub mod Untouched
 pub mod Granted
 pub mod DayPasses
 pub mod WrongTries
+pub mod InPlace
 pub mod Instances

@@ -1,13 +1,14 @@
 -- What is proved over the definitions, by `freshState` and `runJournal` themselves: each statement is a type, and proofs/ has a theorem of it. The
 -- count, the part, the well-formed state, the days and the wrong tries are about whole lists of runs from fresh, rewritten shifts and the wrong tries that
 -- a grant finds about lists of runs on any state; the others about every site, state and run.
-use Prim.Native.Nat.{ℕ, suc, _+_, _/_, _<_}
+use Prim.Native.Nat.{ℕ, suc, _+_, _*_, _/_, _≤_, _<_}
 use mathlib.Core.Path.{_≡_}
 use mathlib.Core.List.{List, [], _∷_, _++_, map}
 use mathlib.Core.Bool.{Bool, true, false, not, _&&_, _||_}
 use lib.Dec.{ltb, eqb}
 use lib.IntN.{pos}
-use lib.ListN.{length, getD}
+use lib.ListN.{length, take, drop, getD}
+use Rattle.octets.specs.Octets.{field}
 use Rattle.model.specs.Words.{all}
 use Rattle.model.specs.Numbers as n
 use Rattle.model.specs.Site.{credentialId, records}
@@ -24,6 +25,7 @@ use Rattle.model.specs.Earned.{Earned}
 use Rattle.model.specs.Shifts.{isShift, untilMidnight, sinceMidnight, Halved, Rewritten}
 use Rattle.model.specs.DayPasses.{isGrantOf, timesGranted, datesGranted, daysInSite, stateLeft, lastOf, daysTaken, neverFall, different}
 use Rattle.model.specs.WrongTries.{triedOf, mostTries, triesIn, triesSince}
+use Rattle.model.specs.InPlace.{partOf, Reads}
 use Rattle.model.specs.declared.Returned.{Returned}
 use Rattle.model.specs.declared.Returned.the-variants.{WorkedThrough, SiteLength, StateForm}
 use Rattle.model.specs.declared.Operation.the-variants.{Factor}
@@ -149,3 +151,18 @@ GrantBelowMost =
     (site state : List ℕ) (rs : List Run) (c : ℕ) (before later : List Worked) (w : Worked) →
     workedIn site state rs ≡ before ++ w ∷ later → isGrantOf c w ≡ true →
     eqb (mostTries c site) 0 || ltb (triesSince c (triesIn c site state) before) (mostTries c site) ≡ true
+
+-- Document 02, job 2: "reading from any record's 32-byte part of a site is shown to give that record's bytes at the field's offset, for all fields together".
+-- For all bytes and every size of parts: the bytes of the i-th part at an offset, and the number in them, are the whole's own at `size` times i plus the offset.
+unfoldable pub InPlace : Type 0
+InPlace =
+    (size i at width : ℕ) (bytes : List ℕ) → i < length bytes / size → at + width ≤ size →
+    (take width (drop at (partOf size i bytes)) ≡ take width (drop (size * i + at) bytes))
+    × (field at width (partOf size i bytes) ≡ field (size * i + at) width bytes)
+
+-- So a reader of any field, whatever it makes of the field's bytes, reads these.
+unfoldable pub ReadInPlace : Type 1
+ReadInPlace =
+    (A : Type 0) (size at width : ℕ) (read value : List ℕ → A) → Reads size at width read value →
+    (i : ℕ) (bytes : List ℕ) → i < length bytes / size →
+    read (partOf size i bytes) ≡ value (take width (drop (size * i + at) bytes))

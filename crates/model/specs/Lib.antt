@@ -16,4 +16,5 @@ pub mod Earned
 pub mod Shifts
 pub mod DayPasses
 pub mod WrongTries
+pub mod InPlace
 pub mod Demands
