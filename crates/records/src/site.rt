@@ -70,6 +70,13 @@ pub fn zone_of(part: &[u8]) -> Zone
     }
 }
 
+pub fn is_out_of_service(part: &[u8]) -> bool
+    requires { ⌜ Part (now part) ⌝ }
+    ensures { λ r. ⌜ r ≡ pointOf (now (part .entry)) .«out_of_service» ⌝ }
+{
+    flag_of(part, layout::POINT_FLAG_OUT_OF_SERVICE)
+}
+
 pub fn mode_of(part: &[u8]) -> u8
     requires { ⌜ Part (now part) ⌝ }
     ensures { λ r. ⌜ r ≡ pointOf (now (part .entry)) .mode ⌝ }
@@ -117,7 +124,7 @@ pub fn point_of(part: &[u8]) -> Point
     ensures { λ r. ⌜ r ≡ pointOf (now (part .entry)) ⌝ }
 {
     Point {
-        out_of_service: flag_of(part, layout::POINT_FLAG_OUT_OF_SERVICE),
+        out_of_service: is_out_of_service(part),
         upper_enforced: flag_of(part, layout::POINT_FLAG_UPPER_ENFORCED),
         lower_enforced: flag_of(part, layout::POINT_FLAG_LOWER_ENFORCED),
         count_adjust: flag_of(part, layout::POINT_FLAG_COUNT_ADJUST),

@@ -29,6 +29,13 @@ pub fn count_of(part: &[u8]) -> u32
     long_at(part, layout::ZONE_STATE_COUNT)
 }
 
+pub fn tag_of(part: &[u8]) -> u32
+    requires { ⌜ Part (now part) ⌝ }
+    ensures { λ r. ⌜ r ≡ pointStateOf (now (part .entry)) .tag ⌝ }
+{
+    long_at(part, layout::POINT_STATE_TAG)
+}
+
 // The byte that says whether a point is locked.
 pub fn locked_byte_of(part: &[u8]) -> u8
     requires { ⌜ Part (now part) ⌝ }
@@ -37,20 +44,24 @@ pub fn locked_byte_of(part: &[u8]) -> u8
     byte_at(part, layout::POINT_STATE_LOCKED)
 }
 
+pub fn waiting_credential_of(part: &[u8]) -> CredentialId
+    requires { ⌜ Part (now part) ⌝ }
+    ensures { λ r. ⌜ r ≡ pointStateOf (now (part .entry)) .«waiting_credential» ⌝ }
+{
+    CredentialId(reference_at(part, layout::POINT_STATE_WAITING_CREDENTIAL))
+}
+
 pub fn point_state_of(part: &[u8]) -> PointState
     requires { ⌜ Part (now part) ⌝ }
     ensures { λ r. ⌜ r ≡ pointStateOf (now (part .entry)) ⌝ }
 {
     PointState {
-        tag: long_at(part, layout::POINT_STATE_TAG),
+        tag: tag_of(part),
         failures: byte_at(part, layout::POINT_STATE_FAILURES),
         locked: locked_byte_of(part) == 1,
         lock_time: long_at(part, layout::POINT_STATE_LOCK_TIME),
         first_failure: long_at(part, layout::POINT_STATE_FIRST_FAILURE),
-        waiting_credential: CredentialId(reference_at(
-            part,
-            layout::POINT_STATE_WAITING_CREDENTIAL,
-        )),
+        waiting_credential: waiting_credential_of(part),
         waiting_since: long_at(part, layout::POINT_STATE_WAITING_SINCE),
     }
 }
