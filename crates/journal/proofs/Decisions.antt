@@ -18,12 +18,13 @@ use Rattle.site.specs.Place.{placeOf}
 use Rattle.site.proofs.Places.{place-found}
 use Rattle.journal.specs.Places.{partAt, objectPlace, applied, Placed}
 use Rattle.journal.specs.Gather.{toAt, countTo, gathered}
-use Rattle.journal.specs.Decide.{readOutcome, objectPlaces, atObject, readAt, workedAt, foundAt, decidedAs, decidedOn}
+use Rattle.journal.specs.Decide.{readOutcome, objectPlaces, atObject, servedAt, readAt, workedAt, foundAt, decidedAs, decidedOn}
 use Rattle.journal.proofs.At.{find-at, seek-at, apply-at, state-of}
 use Rattle.journal.proofs.Situations.{situation-at, rules-at, placed-factor}
 use Rattle.site.specs.declared.Place.{Place}
 use Rattle.site.specs.declared.Place.the-variants.{At, Nothing}
 use Rattle.journal.specs.declared.Places.{Places}
+use Rattle.journal.specs.declared.Decided.{Decided}
 use Rattle.model.specs.declared.Answer.{Answer}
 use Rattle.model.specs.declared.Entry.{Entry}
 use Rattle.model.specs.declared.Operation.{Operation}
@@ -47,9 +48,9 @@ module _ (site state : List ℕ) (e : Entry) (place : Place) where
 
   placed-worked : (o : Operation) → place ≡ placeOf (objectKind o) (e .instance) site →
       Placed site (workedAt o place e site state .outcome) (workedAt o place e site state .places)
-  unfolding readAt readOutcome adjustOutcome disableOutcome serviceOutcome noPoint noCredential noCount
+  unfolding readAt servedAt readOutcome adjustOutcome disableOutcome serviceOutcome noPoint noCredential noCount
   placed-worked Factor p =
-      if-holds (λ u. Placed site u (gathered place e site state .places)) (gathered place e site state .situation .point .«out_of_service») (unchanged _) _
+      if-holds (λ (d : Decided). Placed site (d .outcome) (d .places)) (pointOf (partAt place site) .«out_of_service») (atObject (unchanged _) Nothing) (servedAt place e site state)
       (placed-unchanged site _ _) (placed-factor site state place e _ p)
   placed-worked SetCount p = placed-count (e .amount) p
   placed-worked AdjustCount p =
@@ -85,6 +86,10 @@ object-place Unknown e site f = cc
 
 -- ── the outcome
 
+outcome-if : (c : Bool) (d f : Decided) → (if c then d else f) .outcome ≡ if c then d .outcome else f .outcome
+outcome-if true d f = refl
+outcome-if false d f = refl
+
 module _ (site state : List ℕ) (whole-site : length site % 32 ≡ 0) (same-length : length state ≡ length site) (e : Entry) where
   zone-count : (place : Place) → count (zoneTo (panel site state) (partAt place site, partAt place state) .1) ≡ countTo place site state
   unfolding zoneTo countTo toAt
@@ -92,9 +97,10 @@ module _ (site state : List ℕ) (whole-site : length site % 32 ≡ 0) (same-len
 
   worked-outcome : (o : Operation) (place : Place) →
       workedAt o place e site state .outcome ≡ workedOutcome o (panel site state) e (partAt place site, partAt place state)
-  unfolding readAt readOutcome factorOutcome
+  unfolding readAt servedAt readOutcome factorOutcome
   worked-outcome Factor place =
-      rw (situation-at site state whole-site same-length place e, rules-at site state whole-site same-length place e, zone-count place) (unfold gathered countTo in refl)
+      rw (situation-at site state whole-site same-length place e, rules-at site state whole-site same-length place e, zone-count place)
+      (outcome-if (pointOf (partAt place site) .«out_of_service») (atObject (unchanged _) Nothing) (servedAt place e site state))
   worked-outcome SetCount place = refl
   worked-outcome AdjustCount place = refl
   worked-outcome SetDisable place = refl

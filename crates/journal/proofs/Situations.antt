@@ -78,23 +78,14 @@ placed-factor site state place e x p =
     held : {c : CredentialId} → c ≡ numberAt place e site state → eqb (c .0) NONE ≡ false → seekCredential (numberAt place e site state) site ≡ placeOf 4 (c .0) site
     held q h = rw q (sought 4 (numberAt place e site state .0) site (rw q at h))
 
--- The outcome of a factor read at a point in service.
-pub in-service : (v : Situation) (rules : Verdict) (e : Entry) → v .point .«out_of_service» ≡ false → outcomeOf v e (eventOf v rules e) ≡ readOutcome v rules e
-unfolding readOutcome
-in-service v rules e h = go (v .point .«out_of_service») h _
-  where
-    go : (c : Bool) → c ≡ false → (u : Outcome) → outcomeOf v e (eventOf v rules e) ≡ if c then u else outcomeOf v e (eventOf v rules e)
-    go true h u = cc
-    go false h u = refl
-
 -- What the calls give, one after the other, is what is gathered.
 pub gathered-from : (place : Place) (e : Entry) (site state : List ℕ)
-    {p q f p₁ q₁ p₂ q₂ p₃ q₃ : List ℕ} {point : Point} {held : PointState} {number : CredentialId} {count₁ count₂ disable : ℕ} {to from credential : Place}
+    {t f p q p₁ q₁ p₂ q₂ p₃ q₃ : List ℕ} {waiting number : CredentialId} {point : Point} {held : PointState} {count₁ count₂ disable : ℕ} {to from credential : Place}
     {zone₁ zone₂ : Zone} {matched : Bool} {card : Credential} {kept : CredentialState} →
+    t ≡ partAt place state → waiting ≡ pointStateOf t .«waiting_credential» →
+    f ≡ factorFor waiting e (records site) → number ≡ credentialRead waiting f →
+    to ≡ toAt place site → from ≡ fromAt place site → credential ≡ seekCredential number site →
     p ≡ partAt place site → point ≡ pointOf p → q ≡ partAt place state → held ≡ pointStateOf q →
-    f ≡ factorFor (held .«waiting_credential») e (records site) → number ≡ credentialRead (held .«waiting_credential») f →
-    to ≡ seekZone (point .«zone_to») site → from ≡ seekZone (point .«zone_from») site →
-    credential ≡ seekCredential number site →
     p₁ ≡ partAt to site → zone₁ ≡ zoneOf p₁ → q₁ ≡ partAt to state → count₁ ≡ count q₁ →
     p₂ ≡ partAt from site → zone₂ ≡ zoneOf p₂ → q₂ ≡ partAt from state → count₂ ≡ count q₂ →
     matched ≡ not (missing f) → disable ≡ factorDisable f →
@@ -117,6 +108,6 @@ pub gathered-from : (place : Place) (e : Entry) (site state : List ℕ)
       places = record { point = place; credential = credential; «zone_to» = to; «zone_from» = from };
     }
     ≡ gathered place e site state
-unfolding waitingAt factorAt numberAt toAt fromAt heldAt gathered
-gathered-from place e site state hp hpoint hq hheld hf hnumber hto hfrom hcredential hp₁ hz₁ hq₁ hc₁ hp₂ hz₂ hq₂ hc₂ hm hd hp₃ hcard hq₃ hkept =
-    rw (hkept, hq₃, hcard, hp₃, hd, hm, hc₂, hq₂, hz₂, hp₂, hc₁, hq₁, hz₁, hp₁, hcredential, hfrom, hto, hnumber, hf, hheld, hq, hpoint, hp)
+unfolding waitingAt factorAt numberAt heldAt gathered
+gathered-from place e site state ht hwaiting hf hnumber hto hfrom hcredential hp hpoint hq hheld hp₁ hz₁ hq₁ hc₁ hp₂ hz₂ hq₂ hc₂ hm hd hp₃ hcard hq₃ hkept =
+    rw (hkept, hq₃, hcard, hp₃, hd, hm, hc₂, hq₂, hz₂, hp₂, hc₁, hq₁, hz₁, hp₁, hheld, hq, hpoint, hp, hcredential, hfrom, hto, hnumber, hf, hwaiting, ht)

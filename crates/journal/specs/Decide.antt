@@ -4,7 +4,7 @@ use mathlib.Core.List.{List}
 use mathlib.Core.Bool.{not}
 use Rattle.model.specs.Words.{if_then_else_}
 use Rattle.model.specs.Numbers as n
-use Rattle.model.specs.Site.{pointId, records}
+use Rattle.model.specs.Site.{pointId, records, pointOf}
 use Rattle.model.specs.State.{count, pointStateOf, credentialStateOf}
 use Rattle.model.specs.Entry.{operationOf, inForm}
 use Rattle.model.specs.Checks.{verdict, eventOf}
@@ -28,11 +28,9 @@ abbrev pub rulesOf : Situation → Entry → List (List ℕ) → Verdict
 rulesOf v e ss =
     verdict (v .credential .«first_rights») (v .credential .«second_rights») (pointId (e .instance)) (v .point .«zone_to») (e .time) ss
 
--- The outcome of a factor read, of its situation and what the rules say.
+-- What a factor read at a point in service comes to, of its situation and what the rules say.
 unfoldable pub readOutcome : Situation → Verdict → Entry → Outcome
-readOutcome v rules e =
-    if v .point .«out_of_service» then unchanged (noAnswer n.not-refused (v .«point_state» .tag) (v .«count_to»))
-    else outcomeOf v e (eventOf v rules e)
+readOutcome v rules e = outcomeOf v e (eventOf v rules e)
 
 -- Operations 2 to 5 write the record of their object alone.
 abbrev pub objectPlaces : Place → Places
@@ -41,14 +39,21 @@ objectPlaces place = record { point = place; credential = place; «zone_to» = p
 abbrev pub atObject : Outcome → Place → Decided
 atObject o place = record { outcome = o; places = objectPlaces place }
 
--- A factor read at the point that stands at a place.
-unfoldable pub readAt : Place → Entry → List ℕ → List ℕ → Decided
-readAt place e site state =
+-- A factor read at the point that stands at a place, in service.
+unfoldable pub servedAt : Place → Entry → List ℕ → List ℕ → Decided
+servedAt place e site state =
     record {
       outcome =
           readOutcome (gathered place e site state .situation) (rulesOf (gathered place e site state .situation) e (records site)) e;
       places = gathered place e site state .places;
     }
+
+-- And in service or not: out of service the tag as held and Zone_To's count are all that is asked.
+unfoldable pub readAt : Place → Entry → List ℕ → List ℕ → Decided
+readAt place e site state =
+    if pointOf (partAt place site) .«out_of_service»
+    then atObject (unchanged (noAnswer n.not-refused (pointStateOf (partAt place state) .tag) (countTo place site state))) Nothing
+    else servedAt place e site state
 
 -- The operation at its object, which stands at a place.
 abbrev pub workedAt : Operation → Place → Entry → List ℕ → List ℕ → Decided

@@ -1,11 +1,10 @@
-// The outcome of a factor read, of its situation by value: the order of checks, then the effects. Of the site only the rules are read, where step 9 asks them.
+// The outcome of a factor read at a point in service, of its situation by value: the order of checks, then the effects. Of the site only the rules are read, where step 9 asks them.
 ghost use mathlib.Core.Path.{_≡_};
 ghost use Rattle.model.specs.Site.{records};
 ghost use Rattle.model.specs.Checks.{eventOf};
 ghost use Rattle.checks.specs.Moves.{beforePermission};
 ghost use Rattle.index.specs.Index.{Indexed};
 ghost use Rattle.journal.specs.Decide.{rulesOf, readOutcome};
-use effects::operations;
 use effects::outcome;
 use model::Entry;
 use model::Outcome;
@@ -39,9 +38,6 @@ pub fn decide(site: &[u8], index: &[u16], v: Situation, e: Entry) -> Outcome
     requires { ⌜ Indexed (now site) (now index) ⌝ }
     ensures { λ r. ⌜ r ≡ readOutcome v (rulesOf v e (records (now (site .entry)))) e ⌝ }
 {
-    if v.point.out_of_service {
-        return operations::out_of_service_outcome(v.point_state.tag, v.count_to);
-    }
     let before = checks::before_permission(v, e);
     let rules = rules_for(site, index, v, e, before);
     outcome::factor_outcome(v, e, checks::event_after(v, rules, e, before))

@@ -7,7 +7,7 @@ ghost use Rattle.model.specs.Step.{serviceOutcome, entryOutcome, apply};
 ghost use Rattle.index.specs.Index.{Indexed};
 ghost use Rattle.journal.specs.Places.{partAt};
 ghost use Rattle.journal.specs.Gather.{countTo};
-ghost use Rattle.journal.specs.Decide.{atObject, readAt, workedAt, decidedOn};
+ghost use Rattle.journal.specs.Decide.{atObject, servedAt, readAt, workedAt, decidedOn};
 use super::Decided;
 use super::Places;
 use super::apply::apply_outcome;
@@ -40,10 +40,10 @@ fn at_object(o: Outcome, place: Place) -> Decided
     }
 }
 
-// A factor read at the point that stands at a place.
-fn read_at(site: &[u8], index: &[u16], state: &[u8], e: Entry, place: Place) -> Decided
+// A factor read at the point that stands at a place, in service.
+fn served_at(site: &[u8], index: &[u16], state: &[u8], e: Entry, place: Place) -> Decided
     requires { ⌜ Indexed (now site) (now index) ⌝ }
-    ensures { λ r. ⌜ r ≡ readAt place e (now (site .entry)) (now (state .entry)) ⌝ }
+    ensures { λ r. ⌜ r ≡ servedAt place e (now (site .entry)) (now (state .entry)) ⌝ }
 {
     let g = gather(site, index, state, e, place);
     let v = g.situation;
@@ -54,14 +54,37 @@ fn read_at(site: &[u8], index: &[u16], state: &[u8], e: Entry, place: Place) -> 
     }
 }
 
+// The count of the Zone_To of the point that stands at a place.
+fn count_to_at(site: &[u8], index: &[u16], state: &[u8], place: Place) -> u32
+    requires { ⌜ Indexed (now site) (now index) ⌝ }
+    ensures { λ r. ⌜ r ≡ countTo place (now (site .entry)) (now (state .entry)) ⌝ }
+{
+    records::state::count_of(part_at(state, zone_to_at(site, index, place)))
+}
+
+// A factor read at the point that stands at a place. Out of service, nothing else is looked up or read.
+fn read_at(site: &[u8], index: &[u16], state: &[u8], e: Entry, place: Place) -> Decided
+    requires { ⌜ Indexed (now site) (now index) ⌝ }
+    ensures { λ r. ⌜ r ≡ readAt place e (now (site .entry)) (now (state .entry)) ⌝ }
+{
+    if records::site::is_out_of_service(part_at(site, place)) {
+        let tag = records::state::tag_of(part_at(state, place));
+        let count = count_to_at(site, index, state, place);
+        return at_object(
+            operations::out_of_service_outcome(tag, count),
+            Place::Nothing,
+        );
+    }
+    served_at(site, index, state, e, place)
+}
+
 // Operation 5 at the point that stands at a place.
 fn service_at(site: &[u8], index: &[u16], state: &[u8], e: Entry, place: Place) -> Outcome
     requires { ⌜ Indexed (now site) (now index) ⌝ }
     ensures { λ r. ⌜ r ≡ serviceOutcome e (pointStateOf (partAt place (now (state .entry)))) (countTo place (now (site .entry)) (now (state .entry))) ⌝ }
 {
     let held = records::state::point_state_of(part_at(state, place));
-    let count = records::state::count_of(part_at(state, zone_to_at(site, index, place)));
-    operations::service_outcome(e, held, count)
+    operations::service_outcome(e, held, count_to_at(site, index, state, place))
 }
 
 // The operation at its object, which stands at a place.

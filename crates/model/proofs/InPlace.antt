@@ -71,7 +71,7 @@ site-readers =
       zone-of-upper-limit = reads-number 32 8 4 (lit≤ tt);
       zone-of-lower-limit = reads-number 32 12 4 (lit≤ tt);
       zone-of-passback-timeout = reads-number 32 16 4 (lit≤ tt);
-      point-of-out-of-service = reads-flag 0;
+      is-out-of-service = reads-flag 0;
       point-of-upper-enforced = reads-flag 1;
       point-of-lower-enforced = reads-flag 2;
       point-of-count-adjust = reads-flag 3;
@@ -121,13 +121,13 @@ unfolding pointStateOf credentialStateOf
 state-readers =
     record {
       count-of = reads-number 32 0 4 (lit≤ tt);
-      point-state-of-tag = reads-number 32 0 4 (lit≤ tt);
+      tag-of = reads-number 32 0 4 (lit≤ tt);
       point-state-of-failures = reads-number 32 4 1 (lit≤ tt);
       locked-byte-of = reads-number 32 5 1 (lit≤ tt);
       point-state-of-locked = reads-made 32 5 1 (λ n. eqb n 1) (field 5 1) (reads-number 32 5 1 (lit≤ tt));
       point-state-of-lock-time = reads-number 32 8 4 (lit≤ tt);
       point-state-of-first-failure = reads-number 32 12 4 (lit≤ tt);
-      point-state-of-waiting-credential = reads-made 32 16 4 credentialId (reference 16) (reads-reference 16 (lit≤ tt));
+      waiting-credential-of = reads-made 32 16 4 credentialId (reference 16) (reads-reference 16 (lit≤ tt));
       point-state-of-waiting-since = reads-number 32 20 4 (lit≤ tt);
       credential-state-of-uses = reads-number 32 0 2 (lit≤ tt);
       credential-state-of-days = reads-number 32 2 2 (lit≤ tt);

@@ -42,7 +42,7 @@ pub record SiteReaders : Type 0 where
   pub zone-of-upper-limit : Reads record-size 8 4 (λ s. zoneOf s .«upper_limit») numberIn
   pub zone-of-lower-limit : Reads record-size 12 4 (λ s. zoneOf s .«lower_limit») numberIn
   pub zone-of-passback-timeout : Reads record-size 16 4 (λ s. zoneOf s .«passback_timeout») numberIn
-  pub point-of-out-of-service : Reads record-size 1 1 (λ s. pointOf s .«out_of_service») (bitIn 0)
+  pub is-out-of-service : Reads record-size 1 1 (λ s. pointOf s .«out_of_service») (bitIn 0)
   pub point-of-upper-enforced : Reads record-size 1 1 (λ s. pointOf s .«upper_enforced») (bitIn 1)
   pub point-of-lower-enforced : Reads record-size 1 1 (λ s. pointOf s .«lower_enforced») (bitIn 2)
   pub point-of-count-adjust : Reads record-size 1 1 (λ s. pointOf s .«count_adjust») (bitIn 3)
@@ -89,13 +89,13 @@ pub record SiteReaders : Type 0 where
 -- Those of state records.
 pub record StateReaders : Type 0 where
   pub count-of : Reads record-size 0 4 State.count numberIn
-  pub point-state-of-tag : Reads record-size 0 4 (λ t. pointStateOf t .tag) numberIn
+  pub tag-of : Reads record-size 0 4 (λ t. pointStateOf t .tag) numberIn
   pub point-state-of-failures : Reads record-size 4 1 (λ t. pointStateOf t .failures) numberIn
   pub locked-byte-of : Reads record-size 5 1 State.lockedByte numberIn
   pub point-state-of-locked : Reads record-size 5 1 (λ t. pointStateOf t .locked) (λ b. eqb (numberIn b) 1)
   pub point-state-of-lock-time : Reads record-size 8 4 (λ t. pointStateOf t .«lock_time») numberIn
   pub point-state-of-first-failure : Reads record-size 12 4 (λ t. pointStateOf t .«first_failure») numberIn
-  pub point-state-of-waiting-credential : Reads record-size 16 4 (λ t. pointStateOf t .«waiting_credential») (λ b. credentialId (numberIn b))
+  pub waiting-credential-of : Reads record-size 16 4 (λ t. pointStateOf t .«waiting_credential») (λ b. credentialId (numberIn b))
   pub point-state-of-waiting-since : Reads record-size 20 4 (λ t. pointStateOf t .«waiting_since») numberIn
   pub credential-state-of-uses : Reads record-size 0 2 (λ t. credentialStateOf t .uses) numberIn
   pub credential-state-of-days : Reads record-size 2 2 (λ t. credentialStateOf t .days) numberIn

@@ -46,7 +46,7 @@ enum Action {
 /// The buffers that a call may write.
 #[derive(Clone, PartialEq)]
 pub struct Buffers {
-    state: Vec<u8>,
+    pub state: Vec<u8>,
     answers: Vec<u8>,
 }
 
@@ -110,11 +110,11 @@ impl Call {
         Call { name, action }
     }
 
-    fn run(name: &'static str, journal: Vec<u8>, granted: usize) -> Call {
+    pub fn run(name: &'static str, journal: Vec<u8>, granted: usize) -> Call {
         Call::new(name, Action::Run { journal, granted })
     }
 
-    fn journal(&self) -> &[u8] {
+    pub fn journal(&self) -> &[u8] {
         match &self.action {
             Action::Run { journal, .. } => journal,
             _ => &[],
@@ -143,25 +143,30 @@ impl Call {
     /// Panics unless every engine works the call through, all with the same outcome, and grants
     /// what is meant to be granted.
     pub fn assert_agreed(&self, setting: &Setting) {
-        let outcomes = ENGINES.map(|(name, engine)| {
-            let mut buffers = self.buffers(setting);
-            let returned = self.make(&engine, setting, &mut buffers);
-            assert_eq!(returned, refusal::ACCEPTED, "{name}: turned back");
-            buffers
-        });
         let title = format!(
             "{}, {} records, {}",
             setting.shape,
             setting.records(),
             self.name
         );
+        let outcomes = ENGINES.map(|(name, engine)| {
+            let mut buffers = self.buffers(setting);
+            let returned = self.make(&engine, setting, &mut buffers);
+            self.assert_granted(&format!("{title}, {name}"), returned, &buffers);
+            buffers
+        });
         let [proved, others @ ..] = &outcomes;
         assert!(
             others.iter().all(|other| other == proved),
             "{title}: the engines disagree"
         );
+    }
+
+    /// Panics unless the call was worked through and granted what is meant to be granted.
+    pub fn assert_granted(&self, title: &str, returned: u8, buffers: &Buffers) {
+        assert_eq!(returned, refusal::ACCEPTED, "{title}: turned back");
         if let Action::Run { granted, .. } = self.action {
-            let grants = proved.grants();
+            let grants = buffers.grants();
             assert!(grants >= granted, "{title}: {grants} grants");
         }
     }

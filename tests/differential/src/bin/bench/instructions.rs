@@ -1,21 +1,17 @@
 //! Instruction counts: the program runs itself under `valgrind --tool=callgrind` and tells it where
 //! each call begins and ends; callgrind writes a file for each.
 
-#![allow(unsafe_code)]
-
 use crate::calls::{Call, Setting, ENGINES};
 use crate::meter::Meter;
 use crate::readers;
-use std::arch::asm;
+use crate::valgrind::{missing, request, this_program_under};
 use std::collections::HashMap;
 use std::ffi::{CString, OsString};
 use std::hint::black_box;
 use std::path::Path;
-use std::process::Command;
 use std::{env, fs, io, process};
 
-/// Requests to valgrind and to callgrind, by the numbers of their headers.
-const RUNNING_ON_VALGRIND: usize = 0x1001;
+/// Requests to callgrind, by the numbers of its header.
 const TOGGLE_COLLECT: usize = 0x4354_0002;
 const DUMP_STATS_AT: usize = 0x4354_0003;
 
@@ -25,31 +21,6 @@ const TOTAL: &str = "totals: ";
 
 /// The name of the floor's count.
 const FLOOR: &str = "floor";
-
-/// Asks valgrind for something; 0 where the program does not run under it.
-fn request(number: usize, argument: usize) -> usize {
-    let arguments = [number, argument, 0, 0, 0, 0];
-    let mut answer = 0;
-    // SAFETY: by itself the sequence turns rdi once around and changes nothing but the flags;
-    // valgrind knows it, reads the arguments and writes the answer.
-    unsafe {
-        asm!(
-            "rol rdi, 3",
-            "rol rdi, 13",
-            "rol rdi, 61",
-            "rol rdi, 51",
-            "xchg rbx, rbx",
-            in("rax") arguments.as_ptr(),
-            inout("rdx") answer,
-            options(nostack),
-        );
-    }
-    answer
-}
-
-pub fn is_running_on_valgrind() -> bool {
-    request(RUNNING_ON_VALGRIND, 0) != 0
-}
 
 fn key(setting: &Setting, call: &str, engine: &str) -> String {
     format!("{}/{}/{call}/{engine}", setting.shape, setting.records())
@@ -115,14 +86,12 @@ impl Counts {
     fn written_in(directory: &Path) -> io::Result<Counts> {
         let mut out = OsString::from("--callgrind-out-file=");
         out.push(directory.join("counts"));
-        let missing = |error| io::Error::other(format!("valgrind does not start: {error}"));
-        let output = Command::new("valgrind")
-            .args(["--quiet", "--tool=callgrind", "--collect-atstart=no"])
-            .arg(out)
-            .arg(env::current_exe()?)
-            .args(env::args_os().skip(1))
-            .output()
-            .map_err(missing)?;
+        let options = [
+            "--tool=callgrind".into(),
+            "--collect-atstart=no".into(),
+            out,
+        ];
+        let output = this_program_under(&options)?.output().map_err(missing)?;
         if !output.status.success() {
             let errors = String::from_utf8_lossy(&output.stderr).into_owned();
             return Err(io::Error::other(errors));
@@ -179,11 +148,5 @@ mod tests {
             count_in("desc: Trigger: Program termination\n\ntotals: 0\n"),
             None
         );
-    }
-
-    /// Outside valgrind a request is no more than a few turns.
-    #[test]
-    fn a_request_is_answered_by_nobody() {
-        assert!(!is_running_on_valgrind());
     }
 }

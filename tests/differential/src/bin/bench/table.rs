@@ -1,6 +1,7 @@
 //! The tables of all figures, and the summary of each shape.
 
 use crate::calls::{LONGEST, ONE_ENTRY};
+use crate::loads::{Moved, MOVED};
 use crate::meter::Meter;
 use crate::readers;
 
@@ -24,25 +25,46 @@ impl Site {
     }
 
     pub fn print(&self, meter: &impl Meter) {
-        let title = format!("{:<12}{:>6}  ", self.shape, self.records);
+        let title = title(self.shape, self.records);
         for (call, figures) in &self.calls {
-            let [proved, hashed, linear] = *figures;
-            let [a, b, c] = figures.map(|figure| meter.show(figure));
-            let ratios = [proved / hashed, proved / linear];
-            println!(
-                "{title}{call:<16}{a:>15}{b:>15}{c:>15}{:>10.2}{:>10.2}",
-                ratios[0], ratios[1]
-            );
+            print_engines(&title, call, *figures, |figure| meter.show(figure));
         }
         println!("{title}{:<16}{:>15}", "read once", meter.show(self.floor));
     }
 }
 
-pub fn print_heading() {
+fn title(shape: &str, records: usize) -> String {
+    format!("{shape:<12}{records:>6}  ")
+}
+
+/// The heading of a table of sites; its third column says what the figures are of.
+pub fn print_heading(third: &str) {
     println!(
-        "{:<12}{:>6}  {:<16}{:>15}{:>15}{:>15}{:>10}{:>10}",
-        "shape", "size", "call", "proved", "hashed", "linear", "/hashed", "/linear"
+        "{:<12}{:>6}  {third:<16}{:>15}{:>15}{:>15}{:>10}{:>10}",
+        "shape", "size", "proved", "hashed", "linear", "/hashed", "/linear"
     );
+}
+
+/// A line of such a table: the figures of the engines, and those of the proved one beside the
+/// others where they are not 0.
+fn print_engines(title: &str, name: &str, figures: [f64; 3], show: impl Fn(f64) -> String) {
+    let [proved, others @ ..] = figures;
+    let ratios = others.map(|other| match other {
+        0.0 => "-".into(),
+        other => format!("{:.2}", proved / other),
+    });
+    let ([a, b, c], [d, e]) = (figures.map(show), ratios);
+    println!("{title}{name:<16}{a:>15}{b:>15}{c:>15}{d:>10}{e:>10}");
+}
+
+/// What one read moves at a site, by engine.
+pub fn print_moved(shape: &str, records: usize, engines: &[Moved; 3]) {
+    for (index, name) in MOVED.iter().enumerate() {
+        let figures = engines.each_ref().map(|moved| moved[index] as f64);
+        print_engines(&title(shape, records), name, figures, |figure| {
+            format!("{figure:.0}")
+        });
+    }
 }
 
 /// A column of the summary: its heading, the aim and the figure of the largest site, with that of
