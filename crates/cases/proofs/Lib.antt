@@ -15,6 +15,7 @@ pub mod Factors
 pub mod Valid
 pub mod Modes
 pub mod Rules
+pub mod InPlace
 pub mod Midnight
 pub mod Halves
 pub mod Limits

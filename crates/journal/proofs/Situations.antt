@@ -10,21 +10,19 @@ use Rattle.model.specs.Numbers as n
 use Rattle.model.specs.Numbers.{NONE}
 use Rattle.model.specs.Site.{credentialId, records, zoneOf, pointOf, credentialOf, factorDisable}
 use Rattle.model.specs.State.{panel, count, pointStateOf, credentialStateOf}
-use Rattle.model.specs.Checks.{waiting, factorFor, credentialRead, eventOf}
+use Rattle.model.specs.Checks.{waiting, factorFor, credentialRead}
 use Rattle.model.specs.Effects.{named, outcomeWith, outcomeOf}
 use Rattle.model.specs.Step.{factorRead, numberRead, zoneTo, zoneFrom, credentialAt, situationOf, rulesAt}
 use Rattle.model.proofs.Flat.{sites-panel}
 use Rattle.site.specs.Place.{placeOf}
 use Rattle.journal.specs.Places.{partAt, seekPlace, seekZone, seekCredential, Placed}
 use Rattle.journal.specs.Gather.{waitingAt, factorAt, numberAt, toAt, fromAt, heldAt, gathered}
-use Rattle.journal.specs.Decide.{rulesOf, readOutcome}
+use Rattle.journal.specs.Decide.{rulesOf}
 use Rattle.journal.proofs.At.{seek-at}
 use Rattle.site.specs.declared.Place.{Place}
 use Rattle.model.specs.declared.CredentialId.{CredentialId}
 use Rattle.model.specs.declared.Entry.{Entry}
 use Rattle.model.specs.declared.Situation.{Situation}
-use Rattle.model.specs.declared.Verdict.{Verdict}
-use Rattle.model.specs.declared.Outcome.{Outcome}
 use Rattle.model.specs.declared.Zone.{Zone}
 use Rattle.model.specs.declared.Point.{Point}
 use Rattle.model.specs.declared.PointState.{PointState}
@@ -80,12 +78,12 @@ placed-factor site state place e x p =
 
 -- What the calls give, one after the other, is what is gathered.
 pub gathered-from : (place : Place) (e : Entry) (site state : List ℕ)
-    {t f p q p₁ q₁ p₂ q₂ p₃ q₃ : List ℕ} {waiting number : CredentialId} {point : Point} {held : PointState} {count₁ count₂ disable : ℕ} {to from credential : Place}
+    {p q f p₁ q₁ p₂ q₂ p₃ q₃ : List ℕ} {point : Point} {held : PointState} {number : CredentialId} {count₁ count₂ disable : ℕ} {to from credential : Place}
     {zone₁ zone₂ : Zone} {matched : Bool} {card : Credential} {kept : CredentialState} →
-    t ≡ partAt place state → waiting ≡ pointStateOf t .«waiting_credential» →
-    f ≡ factorFor waiting e (records site) → number ≡ credentialRead waiting f →
-    to ≡ toAt place site → from ≡ fromAt place site → credential ≡ seekCredential number site →
     p ≡ partAt place site → point ≡ pointOf p → q ≡ partAt place state → held ≡ pointStateOf q →
+    f ≡ factorFor (held .«waiting_credential») e (records site) → number ≡ credentialRead (held .«waiting_credential») f →
+    to ≡ seekZone (point .«zone_to») site → from ≡ seekZone (point .«zone_from») site →
+    credential ≡ seekCredential number site →
     p₁ ≡ partAt to site → zone₁ ≡ zoneOf p₁ → q₁ ≡ partAt to state → count₁ ≡ count q₁ →
     p₂ ≡ partAt from site → zone₂ ≡ zoneOf p₂ → q₂ ≡ partAt from state → count₂ ≡ count q₂ →
     matched ≡ not (missing f) → disable ≡ factorDisable f →
@@ -108,6 +106,6 @@ pub gathered-from : (place : Place) (e : Entry) (site state : List ℕ)
       places = record { point = place; credential = credential; «zone_to» = to; «zone_from» = from };
     }
     ≡ gathered place e site state
-unfolding waitingAt factorAt numberAt heldAt gathered
-gathered-from place e site state ht hwaiting hf hnumber hto hfrom hcredential hp hpoint hq hheld hp₁ hz₁ hq₁ hc₁ hp₂ hz₂ hq₂ hc₂ hm hd hp₃ hcard hq₃ hkept =
-    rw (hkept, hq₃, hcard, hp₃, hd, hm, hc₂, hq₂, hz₂, hp₂, hc₁, hq₁, hz₁, hp₁, hheld, hq, hpoint, hp, hcredential, hfrom, hto, hnumber, hf, hwaiting, ht)
+unfolding waitingAt factorAt numberAt toAt fromAt heldAt gathered
+gathered-from place e site state hp hpoint hq hheld hf hnumber hto hfrom hcredential hp₁ hz₁ hq₁ hc₁ hp₂ hz₂ hq₂ hc₂ hm hd hp₃ hcard hq₃ hkept =
+    rw (hkept, hq₃, hcard, hp₃, hd, hm, hc₂, hq₂, hz₂, hp₂, hc₁, hq₁, hz₁, hp₁, hcredential, hfrom, hto, hnumber, hf, hheld, hq, hpoint, hp)

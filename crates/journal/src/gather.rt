@@ -7,7 +7,7 @@ ghost use Rattle.model.specs.Checks.{factorFor, credentialRead};
 ghost use Rattle.records.specs.Part.{Part};
 ghost use Rattle.index.specs.Index.{Indexed};
 ghost use Rattle.journal.specs.Places.{seekZone, seekCredential};
-ghost use Rattle.journal.specs.Gather.{gathered, toAt, fromAt};
+ghost use Rattle.journal.specs.Gather.{gathered, toAt};
 use super::Gathered;
 use super::Places;
 use super::object::part_at;
@@ -41,19 +41,12 @@ fn seek_credential(site: &[u8], index: &[u16], credential: CredentialId) -> Plac
     indexed::place_of_credential(site, index, credential)
 }
 
-// The places of the Zone_To and the Zone_From of the point that stands at a place.
+// The place of the Zone_To of the point that stands at a place.
 pub fn zone_to_at(site: &[u8], index: &[u16], place: Place) -> Place
     requires { ⌜ Indexed (now site) (now index) ⌝ }
     ensures { λ r. ⌜ r ≡ toAt place (now (site .entry)) ⌝ }
 {
     seek_zone(site, index, records::site::zone_to_of(part_at(site, place)))
-}
-
-fn zone_from_at(site: &[u8], index: &[u16], place: Place) -> Place
-    requires { ⌜ Indexed (now site) (now index) ⌝ }
-    ensures { λ r. ⌜ r ≡ fromAt place (now (site .entry)) ⌝ }
-{
-    seek_zone(site, index, records::site::zone_from_of(part_at(site, place)))
 }
 
 // The factor that was read, at a point that waits for a credential or for nobody.
@@ -91,20 +84,22 @@ fn credential_read(waiting: CredentialId, factor: &[u8]) -> CredentialId
     CredentialId(records::site::instance_of(factor))
 }
 
-// The situation of a factor read at the point that stands at a place. What the lookups need is read first, all other fields after the last lookup.
+// The situation of a factor read at the point that stands at a place.
 pub fn gather(site: &[u8], index: &[u16], state: &[u8], e: Entry, place: Place) -> Gathered
     requires { ⌜ Indexed (now site) (now index) ⌝ }
     ensures { λ r. ⌜ r ≡ gathered place e (now (site .entry)) (now (state .entry)) ⌝ }
 {
-    let waiting = records::state::waiting_credential_of(part_at(state, place));
+    let point = records::site::point_of(part_at(site, place));
+    let point_state = records::state::point_state_of(part_at(state, place));
+    let waiting = point_state.waiting_credential;
     let factor = factor_for(site, index, waiting, e);
     let number = credential_read(waiting, factor);
-    let zone_to = zone_to_at(site, index, place);
-    let zone_from = zone_from_at(site, index, place);
+    let zone_to = seek_zone(site, index, point.zone_to);
+    let zone_from = seek_zone(site, index, point.zone_from);
     let credential = seek_credential(site, index, number);
     let situation = Situation {
-        point: records::site::point_of(part_at(site, place)),
-        point_state: records::state::point_state_of(part_at(state, place)),
+        point: point,
+        point_state: point_state,
         zone_to: records::site::zone_of(part_at(site, zone_to)),
         count_to: records::state::count_of(part_at(state, zone_to)),
         zone_from: records::site::zone_of(part_at(site, zone_from)),

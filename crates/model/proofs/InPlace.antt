@@ -1,6 +1,6 @@
 -- A field read in a part is the whole's own at the part's place; and every reader reads one field.
-use Prim.Native.Nat.{ℕ, _+_, _*_, _/_, _≤_, _<_}
-use mathlib.Core.Path.{_≡_, refl, sym, ap, _∙_}
+use Prim.Native.Nat.{ℕ, _+_, _/_, _≤_, _<_}
+use mathlib.Core.Path.{_≡_, refl, ap, _∙_}
 use mathlib.Core.List.{List, [], _∷_}
 use native.Mathlib.Nat.{add-zero, div-mul-le-self}
 use native.Mathlib.Omega.{arith}
@@ -127,7 +127,7 @@ state-readers =
       point-state-of-locked = reads-made 32 5 1 (λ n. eqb n 1) (field 5 1) (reads-number 32 5 1 (lit≤ tt));
       point-state-of-lock-time = reads-number 32 8 4 (lit≤ tt);
       point-state-of-first-failure = reads-number 32 12 4 (lit≤ tt);
-      waiting-credential-of = reads-made 32 16 4 credentialId (reference 16) (reads-reference 16 (lit≤ tt));
+      point-state-of-waiting-credential = reads-made 32 16 4 credentialId (reference 16) (reads-reference 16 (lit≤ tt));
       point-state-of-waiting-since = reads-number 32 20 4 (lit≤ tt);
       credential-state-of-uses = reads-number 32 0 2 (lit≤ tt);
       credential-state-of-days = reads-number 32 2 2 (lit≤ tt);

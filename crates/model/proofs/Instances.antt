@@ -4,12 +4,12 @@ use native.Mathlib.Omega.{arith}
 use mathlib.Core.Path.{_≡_, refl}
 use mathlib.Core.List.{List, [], _∷_, map, flatten}
 use mathlib.Core.Bool.{true, _||_}
-use lib.Dec.{ltb, eqb}
+use lib.Dec.{lit<, lit≤, ltb, eqb}
 use lib.ListN.{take, drop}
 use lib.IntN.{pos}
-use Rattle.octets.specs.Octets.{put}
+use Rattle.octets.specs.Octets.{field, put}
 use Rattle.model.specs.Numbers.{NONE, NEVER, UNLIMITED}
-use Rattle.model.specs.Site.{credentialId, records}
+use Rattle.model.specs.Site.{credentialId, records, location}
 use Rattle.model.specs.State.{Panel, panel, sites, find, fresh}
 use Rattle.model.specs.Entry.{entryOf}
 use Rattle.model.specs.Checks.{timeFits}
@@ -22,9 +22,10 @@ use Rattle.model.specs.Earned.{FittingRule, Earned}
 use Rattle.model.specs.Shifts.{isShift, followingDays, untilMidnight, sinceMidnight, standsHalved, standsWhole, Halved, Rewritten}
 use Rattle.model.specs.DayPasses.{timesGranted, datesGranted, daysInSite, stateLeft, lastOf, daysTaken, different}
 use Rattle.model.specs.WrongTries.{mostTries, triedOf, triesIn, triesSince}
-use Rattle.model.specs.Demands.{Count, Isolation, GrantEarned, ShiftHalves, SameShifts, FreshShifts, AcceptedShifts, LastGrant, DaysTaken, DaysOfAdmission, OthersLeftOut, WrongTries, GrantBelowMost}
+use Rattle.model.specs.InPlace.{partOf, numberIn}
+use Rattle.model.specs.Demands.{InPlace, ReadInPlace, Count, Isolation, GrantEarned, ShiftHalves, SameShifts, FreshShifts, AcceptedShifts, LastGrant, DaysTaken, DaysOfAdmission, OthersLeftOut, WrongTries, GrantBelowMost}
 use Rattle.model.proofs.Open.{definitions}
-use Rattle.model.proofs.Build.{point, credential, card, rule, read, run, examples}
+use Rattle.model.proofs.Build.{zone, point, credential, card, rule, read, run, examples}
 use Rattle.model.proofs.Parts.{part, nothing, parts}
 use Rattle.model.proofs.Applied.{hall, west, east, both-wings, west-alone, guest, passes, floor, codes, coded-wings, forgetful}
 use Rattle.model.proofs.Counted.{count-is-tally}
@@ -36,6 +37,7 @@ use Rattle.model.proofs.SameShifts.{same-shifts, fresh-shifts}
 use Rattle.model.proofs.ShiftsAccepted.{accepted-shifts}
 use Rattle.model.proofs.DayPasses.{last-grant, days-taken, days-of-admission, dates-never-fall}
 use Rattle.model.proofs.WrongTries.{wrong-tries, grant-below-most}
+use Rattle.model.proofs.InPlace.{in-place, read-in-place, site-readers}
 
 -- The count of zone 9 in the hall.
 pub hall-counted : pos (countOf 9 hall) ≡ standing (tallyOf 9 hall)
@@ -150,3 +152,19 @@ pub west-alike :
     × (partState (part nothing nothing) (othersLeftOut (part nothing nothing) forgetful) ≡ partState (part nothing nothing) forgetful)
 unfolding OthersLeftOut
 west-alike = let l = others-left-out (part nothing nothing) forgetful west-beside-forgetful in (l .1, l .2)
+
+-- ── records read in their place
+
+-- The rule of a site with a zone before it: its location, read in its own part, is the site's bytes at 32 + 8.
+unfoldable pub guarded : List ℕ
+unfolding definitions examples
+guarded = flatten (zone 9 0 ∷ rule 5 1 2 0 1440 ∷ [])
+
+pub location-in-place : location (partOf 32 1 guarded) ≡ numberIn (take 4 (drop 40 guarded))
+unfolding definitions examples guarded ReadInPlace
+location-in-place = read-in-place ℕ 32 8 4 location numberIn (site-readers .location-of) 1 guarded (lit< tt)
+
+-- And an instance, as a number of the site.
+pub instance-in-place : field 4 4 (partOf 32 1 guarded) ≡ field 36 4 guarded
+unfolding definitions examples guarded InPlace
+instance-in-place = in-place 32 1 4 4 guarded (lit< tt) (lit≤ tt) .1

@@ -95,7 +95,7 @@ pub record StateReaders : Type 0 where
   pub point-state-of-locked : Reads record-size 5 1 (λ t. pointStateOf t .locked) (λ b. eqb (numberIn b) 1)
   pub point-state-of-lock-time : Reads record-size 8 4 (λ t. pointStateOf t .«lock_time») numberIn
   pub point-state-of-first-failure : Reads record-size 12 4 (λ t. pointStateOf t .«first_failure») numberIn
-  pub waiting-credential-of : Reads record-size 16 4 (λ t. pointStateOf t .«waiting_credential») (λ b. credentialId (numberIn b))
+  pub point-state-of-waiting-credential : Reads record-size 16 4 (λ t. pointStateOf t .«waiting_credential») (λ b. credentialId (numberIn b))
   pub point-state-of-waiting-since : Reads record-size 20 4 (λ t. pointStateOf t .«waiting_since») numberIn
   pub credential-state-of-uses : Reads record-size 0 2 (λ t. credentialStateOf t .uses) numberIn
   pub credential-state-of-days : Reads record-size 2 2 (λ t. credentialStateOf t .days) numberIn

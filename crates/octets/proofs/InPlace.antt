@@ -1,11 +1,11 @@
 -- What stands in a group of bytes stands in the whole list, at the group's place: one law for every size of groups, every group, offset and width.
-use mathlib.Core.Path.{_≡_, refl, sym, ap, _∙_}
+use mathlib.Core.Path.{_≡_, ap, _∙_}
 use mathlib.Core.List.{List, [], _∷_}
 use Prim.Native.Nat.{ℕ, zero, suc, _+_, _-_, _*_, _≤_, _<_}
 use native.Mathlib.Nat.{zero-add, suc-add, mul-comm}
 use native.Mathlib.Omega.{arith}
 use lib.ListN.{take, drop, getD}
-use lib.Seq.{drop-drop, drop-nil, take-nil, take-take}
+use lib.Seq.{drop-drop, take-nil, take-take}
 use Rattle.octets.specs.Octets.{field, groups}
 use Rattle.octets.proofs.Laws.{field-part}
 use Rattle.octets.proofs.Groups.{group-at}

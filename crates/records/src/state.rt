@@ -44,13 +44,6 @@ pub fn locked_byte_of(part: &[u8]) -> u8
     byte_at(part, layout::POINT_STATE_LOCKED)
 }
 
-pub fn waiting_credential_of(part: &[u8]) -> CredentialId
-    requires { ⌜ Part (now part) ⌝ }
-    ensures { λ r. ⌜ r ≡ pointStateOf (now (part .entry)) .«waiting_credential» ⌝ }
-{
-    CredentialId(reference_at(part, layout::POINT_STATE_WAITING_CREDENTIAL))
-}
-
 pub fn point_state_of(part: &[u8]) -> PointState
     requires { ⌜ Part (now part) ⌝ }
     ensures { λ r. ⌜ r ≡ pointStateOf (now (part .entry)) ⌝ }
@@ -61,7 +54,10 @@ pub fn point_state_of(part: &[u8]) -> PointState
         locked: locked_byte_of(part) == 1,
         lock_time: long_at(part, layout::POINT_STATE_LOCK_TIME),
         first_failure: long_at(part, layout::POINT_STATE_FIRST_FAILURE),
-        waiting_credential: waiting_credential_of(part),
+        waiting_credential: CredentialId(reference_at(
+            part,
+            layout::POINT_STATE_WAITING_CREDENTIAL,
+        )),
         waiting_since: long_at(part, layout::POINT_STATE_WAITING_SINCE),
     }
 }

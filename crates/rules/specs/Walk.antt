@@ -2,7 +2,7 @@
 use Prim.Native.Nat.{ℕ, _<_}
 use mathlib.Core.Path.{_≡_}
 use mathlib.Core.List.{List, [], _∷_}
-use mathlib.Core.Bool.{Bool, false, _||_}
+use mathlib.Core.Bool.{Bool, false, not, _&&_, _||_}
 use lib.Dec.{eqb}
 use Rattle.model.specs.Words.{if_then_else_, keep, any}
 use Rattle.model.specs.Numbers.{NONE, access-zone, access-point}
@@ -18,6 +18,10 @@ findings a ss = verdict (a .first) (a .second) (a .point) (a .to) (a .time) ss
 -- What no record finds.
 abbrev pub nothingFound : Verdict
 nothingFound = record { «negative_fits» = false; «positive_fits» = false; «positive_located» = false }
+
+-- What a rule finds that fits in location, by its sign and whether its hours fit.
+abbrev pub found : Bool → Bool → Verdict
+found negative timely = record { «negative_fits» = negative && timely; «positive_fits» = not negative && timely; «positive_located» = not negative }
 
 -- What two verdicts find, each over records of its own.
 unfoldable pub both : Verdict → Verdict → Verdict

@@ -1,5 +1,6 @@
 // Step 9 of the order of checks: what the enabled rules of a credential's rights say at a point and a time.
-// Rules are found by the index of the site, and the fields of a rule are read out of its record, a 32-byte part of the lent site.
+// Rules are found by the index of the site. A rule is its record, a 32-byte part of the lent site, and each field is read out of it where it is asked
+// and not before.
 
 use model::PointId;
 use model::RightsId;
@@ -32,10 +33,10 @@ ghost use mathlib.Core.List.{[], _∷_};
 ghost use mathlib.Core.Bool.{true};
 ghost use Prim.Native.Nat.{_≤_, _<_};
 ghost use lib.ListN.{length};
-ghost use Rattle.model.specs.Site.{records};
+ghost use Rattle.model.specs.Site.{records, negative};
 ghost use Rattle.model.specs.Checks.{enabledRule, locationFits, weekday, weekdayBefore, minuteOfDay, fitsWithinDay, fitsPastMidnight, timeFits};
 ghost use Rattle.index.specs.Index.{rule-classes, inClass, Indexed};
-ghost use Rattle.rules.specs.Walk.{nothingFound, both, findings, Gains, ruleClasses, Classes, classCount};
+ghost use Rattle.rules.specs.Walk.{nothingFound, found, both, findings, Gains, ruleClasses, Classes, classCount};
 
 // The classes of a rights number, everywhere, at a point, at its Zone_To; those of two.
 const NUMBER_CLASSES: usize = 3;
@@ -85,7 +86,8 @@ pub fn minute_of_day(time: u32) -> u16
     (time / SECONDS_OF_MINUTE % MINUTES_OF_DAY) as u16
 }
 
-// Whether a record is an enabled rule of either rights number. Records of another kind or number are passed over first; NONE is no rule's.
+// Whether a record is an enabled rule of either rights number. Records of another kind or number are passed over first; NONE is no rule's. The flag is
+// read of a rule of the rights only.
 pub fn is_enabled_rule(part: &[u8], first: RightsId, second: RightsId) -> bool
     requires { ⌜ length (now part) ≡ 32 ⌝ }
     ensures { λ r. ⌜ r ≡ enabledRule first second (now (part .entry)) ⌝ }
@@ -97,19 +99,28 @@ pub fn is_enabled_rule(part: &[u8], first: RightsId, second: RightsId) -> bool
     if (instance != first.0) & (instance != second.0) {
         return false;
     }
-    (instance != NONE) & is_enabled(part)
+    if instance == NONE {
+        return false;
+    }
+    is_enabled(part)
 }
 
-// Whether a rule holds at a point with a Zone_To.
+// Whether a rule holds at a point with a Zone_To. The location is read only where its kind can fit.
 pub fn location_fits(part: &[u8], point: PointId, to: ZoneId) -> bool
     requires { ⌜ length (now part) ≡ 32 ⌝ }
     ensures { λ r. ⌜ r ≡ locationFits point to (now (part .entry)) ⌝ }
 {
+    if is_everywhere(part) {
+        return true;
+    }
     let kind = location_kind_of(part);
-    let location = location_of(part);
-    is_everywhere(part)
-        | (kind == ACCESS_POINT) & (location == point.0)
-        | (kind == ACCESS_ZONE) & (location == to.0) & (to.0 != NONE)
+    if kind == ACCESS_POINT {
+        return location_of(part) == point.0;
+    }
+    if (kind != ACCESS_ZONE) | (to.0 == NONE) {
+        return false;
+    }
+    location_of(part) == to.0
 }
 
 // Whether a time is in the window of a rule that ends on the day on which it began.
@@ -159,6 +170,23 @@ fn nothing() -> Verdict
     }
 }
 
+// What is found so far, with what a rule of the rights adds to it that fits in location. Its hours are read only where they can change what is found.
+fn with_located(v: Verdict, part: &[u8], time: u32) -> Verdict
+    requires { ⌜ length (now part) ≡ 32 ⌝ }
+    ensures { λ r. ⌜ r ≡ both v (found (negative (now (part .entry))) (timeFits time (now (part .entry)))) ⌝ }
+{
+    let negative = is_negative(part);
+    let mut w = v;
+    w.positive_located = v.positive_located | !negative;
+    if (negative & v.negative_fits) | (!negative & v.positive_fits) {
+        return w;
+    }
+    let timely = time_fits(part, time);
+    w.negative_fits = v.negative_fits | (negative & timely);
+    w.positive_fits = v.positive_fits | (!negative & timely);
+    w
+}
+
 // What is found so far, with what a record adds to it.
 fn with_record(v: Verdict, part: &[u8], a: Asked) -> Verdict
     requires { ⌜ length (now part) ≡ 32 ⌝ }
@@ -170,13 +198,7 @@ fn with_record(v: Verdict, part: &[u8], a: Asked) -> Verdict
     if !location_fits(part, a.point, a.to) {
         return v;
     }
-    let negative = is_negative(part);
-    let timely = time_fits(part, a.time);
-    Verdict {
-        negative_fits: v.negative_fits | (negative & timely),
-        positive_fits: v.positive_fits | (!negative & timely),
-        positive_located: v.positive_located | !negative,
-    }
+    with_located(v, part, a.time)
 }
 
 // What is found so far, with what the rules of a class add to it: records of their bucket are read as long as the chain may hold one. A chain that is
@@ -195,9 +217,9 @@ fn with_class(site: &[u8], index: &[u16], found: Verdict, class: usize, a: Asked
                 ended: false,
             };
         }
-        let i = index::record_of(chain);
-        v = with_record(v, index::record_at(site, i), a);
-        chain = index::link_of(index, i);
+        let at = index::record_of(chain);
+        v = with_record(v, index::record_at(site, at), a);
+        chain = index::link_of(index, at);
         links += 1;
     }
     Walked {

@@ -9,6 +9,7 @@ fn every_scenario_is_listed() {
     for text in [
         include_str!("../src/scenarios/day_passes.rs"),
         include_str!("../src/scenarios/field_sheet.rs"),
+        include_str!("../src/scenarios/long_rules.rs"),
         include_str!("../src/scenarios/midnight.rs"),
         include_str!("../src/scenarios/misreadings.rs"),
         include_str!("../src/scenarios/paper_cases.rs"),

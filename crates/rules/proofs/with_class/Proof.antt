@@ -63,5 +63,5 @@ returns-2 c e =
 pub with-class-spec : {M : Type 1} → statement M
 with-class-spec =
     tie.close (tie.spec Inv-loop μ-loop (λ c κs. (c .before .before .pre .0 .size, omega (arith, c .before .before .pre .1))) loop-holds (λ c κs. tt)
-    (λ c e. absurd (false≢true e)) (λ c κs. search needs) (λ c κs. in-site c) (λ c κs. c .record-at .ensures .1) link-of-requires (λ c. search needs)
+    (λ c e. absurd (false≢true e)) (λ c κs. search needs) (λ c κs. omega (arith, in-site c)) (λ c κs. c .record-at .ensures .1) link-of-requires (λ c. search needs)
     (λ c. search needs) loop-again returns-2)

@@ -1,12 +1,11 @@
--- A record that is no enabled rule of the rights, or holds elsewhere, adds nothing; of any other, each test of the definition is computed.
-use mathlib.Core.Path.{sym, _∙_}
-use mathlib.Core.Bool.{and-true, or-false}
+-- A record that is no enabled rule of the rights, or holds elsewhere, adds nothing; any other adds what it finds.
+use mathlib.Core.Path.{_≡_, sym, _∙_}
+use mathlib.Core.Bool.{true}
 use denote.Ref.{now}
 use borrow.Author.Needs.{needs}
 use borrow.Author.Tests.{not-true, not-false}
-use Rattle.model.specs.Checks.{verdict}
-use Rattle.rules.specs.Walk.{both}
-use Rattle.rules.proofs.Laws.{no-rule, elsewhere}
+use Rattle.model.specs.Checks.{enabledRule, locationFits}
+use Rattle.rules.proofs.Laws.{no-rule, elsewhere, finds}
 use Rattle.rules.proofs.with_record.Statement.{statement}
 use Rattle.rules.proofs.with_record.Tie as tie
 
@@ -24,22 +23,20 @@ returns-2 c =
     (elsewhere (a .a) (a .v) (now (a .part))
     (sym (c .before .location-fits .ensures) ∙ not-true _ (c .if2 .taken)))
 
+-- Past the two tests it is an enabled rule of the rights, and fits in location.
+module _ (c : tie.Else2) where
+  rule : let a = c .before .before .before .before .before .args in enabledRule (a .a .first) (a .a .second) (now (a .part)) ≡ true
+  rule = let e = c .before .before in sym (e .before .is-enabled-rule .ensures) ∙ not-false _ (e .if1 .left)
+
+  located : let a = c .before .before .before .before .before .args in locationFits (a .a .point) (a .a .to) (now (a .part)) ≡ true
+  located = sym (c .before .location-fits .ensures) ∙ not-false _ (c .if2 .left)
+
 returns-3 : tie.Need-returns-3
-unfolding both verdict
 returns-3 c =
-    let t = c .before .before .before in
-    let l = t .before .before in
-    let e = l .before .before in
-    rw (
-      ← e .before .is-enabled-rule .ensures,
-      not-false (e .before .is-enabled-rule .result) (e .if1 .left),
-      ← l .before .location-fits .ensures,
-      not-false (l .before .location-fits .result) (l .if2 .left),
-      t .time-fits .ensures,
-      t .before .is-negative .ensures,
-    )
-    (simp (and-true, or-false))
+    let l = c .before in
+    let a = l .before .before .before .before .before .args in
+    rw (finds (a .a) (now (a .part)) (rule l) (located l)) (c .with-located .ensures)
 
 pub with-record-spec : {M : Type 1} → statement M
 with-record-spec =
-    tie.close (tie.spec (λ c κs. search needs) returns (λ c κs. search needs) returns-2 (λ c κs. search needs) (λ c κs. search needs) returns-3)
+    tie.close (tie.spec (λ c κs. search needs) returns (λ c κs. search needs) returns-2 (λ c κs. search needs) returns-3)

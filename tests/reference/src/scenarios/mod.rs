@@ -3,6 +3,7 @@
 
 pub mod day_passes;
 pub mod field_sheet;
+pub mod long_rules;
 pub mod midnight;
 pub mod misreadings;
 pub mod paper_cases;
@@ -89,6 +90,16 @@ macro_rules! test_scenarios {
             any_most_is_accepted_and_the_byte_behind_it_is_spare
             one_person_forgets_the_code_while_colleagues_go_in_and_out
             wrong_codes_in_the_east_wing_leave_the_west_wing_as_it_was
+        }
+        $crate::test_scenarios! { $engine, long_rules:
+            the_one_rule_of_a_card_is_found_among_1900
+            a_fitting_rule_among_1899_that_differ_in_one_field_grants
+            one_negative_rule_among_1899_that_grant_denies_in_its_hours
+            many_negative_rules_name_no_place
+            one_rule_in_place_among_1899_elsewhere_makes_it_136
+            the_same_rule_1900_times_is_the_rule
+            rules_of_either_rights_number_are_the_cards
+            a_full_campus_lets_each_card_in_on_its_two_days
         }
     };
     ($engine:expr, $group:ident: $($scenario:ident)+) => {

@@ -1,9 +1,0 @@
--- A field of the point's state.
-use borrow.Author.Needs.{needs}
-use Rattle.model.specs.State.{pointStateOf}
-use Rattle.records.proofs.state.waiting_credential_of.Statement.{statement}
-use Rattle.records.proofs.state.waiting_credential_of.Tie as tie
-
-pub waiting-credential-of-spec : {M : Type 1} → statement M
-unfolding pointStateOf
-waiting-credential-of-spec = tie.close (tie.spec (λ c κs. search needs) (λ c. cc))
