@@ -147,6 +147,25 @@ fn members(body: &str) -> Vec<(&str, &str)> {
         .collect()
 }
 
+/// The code with each call of a primitive on one line, also where the layout gives every argument a
+/// line of its own.
+fn with_whole_calls(code: &str) -> String {
+    let mut text = String::new();
+    let mut is_within = false;
+    for line in code.lines() {
+        let line = if is_within { line.trim() } else { line };
+        if is_within && line.starts_with(')') {
+            text.truncate(text.trim_end_matches([',', ' ']).len());
+            is_within = false;
+        }
+        text.push_str(line);
+        is_within |= line.ends_with("_at(");
+        let arguments = if line.ends_with(',') { " " } else { "" };
+        text.push_str(if is_within { arguments } else { "\n" });
+    }
+    text
+}
+
 /// The functions that read a field by a primitive, and the members of structs that do or that make
 /// something of such a function's field.
 fn readers_in(code: &str, layout: &Layout) -> Readers {
@@ -208,7 +227,7 @@ fn code() -> Readers {
     let layout = layout();
     let mut readers = readers_outside(&layout);
     for module in MODULES {
-        let code = text_of(&format!("crates/records/src/{module}.rt"));
+        let code = with_whole_calls(&text_of(&format!("crates/records/src/{module}.rt")));
         for (name, place) in readers_in(&code, &layout) {
             add(&mut readers, format!("{module}::{name}"), place);
         }
