@@ -31,7 +31,7 @@ other-number first second s h = go (eqb (instance s) (first .0)) (eqb (instance 
     go false false h = simp and-false
 
 -- A rule of one of two numbers is of the rights, but for NONE, which is no rule's number.
-of-number : (first second i : ℕ) → not (eqb i first) && not (eqb i second) ≡ false
+pub of-number : (first second i : ℕ) → not (eqb i first) && not (eqb i second) ≡ false
     → not (eqb first NONE) && eqb i first || not (eqb second NONE) && eqb i second ≡ not (eqb i NONE)
 of-number first second i h = go (eqb i first) refl (eqb i second) refl h
   where
@@ -41,11 +41,6 @@ of-number first second i h = go (eqb i first) refl (eqb i second) refl h
     go true e false f h = rw (← eqb-true i first e) (simp (and-true, and-false, or-false))
     go false e true f h = rw (← eqb-true i second f) (simp (and-true, and-false))
     go false e false f h = cc
-
-pub numbered : (first second : RightsId) (s : List ℕ) → eqb (kind s) access-rule ≡ true
-    → not (eqb (instance s) (first .0)) && not (eqb (instance s) (second .0)) ≡ false → enabledRule first second s ≡ not (eqb (instance s) NONE) && enabled s
-unfolding enabledRule
-numbered first second s k h = rw (k, of-number (first .0) (second .0) (instance s) h)
 
 -- Of another kind than a zone, or without a Zone_To, a location is not the Zone_To; else its number decides.
 module _ (kind place to : ℕ) where

@@ -86,8 +86,7 @@ pub fn minute_of_day(time: u32) -> u16
     (time / SECONDS_OF_MINUTE % MINUTES_OF_DAY) as u16
 }
 
-// Whether a record is an enabled rule of either rights number. Records of another kind or number are passed over first; NONE is no rule's. The flag is
-// read of a rule of the rights only.
+// Whether a record is an enabled rule of either rights number. Records of another kind or number are passed over first; NONE is no rule's.
 pub fn is_enabled_rule(part: &[u8], first: RightsId, second: RightsId) -> bool
     requires { ⌜ length (now part) ≡ 32 ⌝ }
     ensures { λ r. ⌜ r ≡ enabledRule first second (now (part .entry)) ⌝ }
@@ -99,10 +98,7 @@ pub fn is_enabled_rule(part: &[u8], first: RightsId, second: RightsId) -> bool
     if (instance != first.0) & (instance != second.0) {
         return false;
     }
-    if instance == NONE {
-        return false;
-    }
-    is_enabled(part)
+    (instance != NONE) & is_enabled(part)
 }
 
 // Whether a rule holds at a point with a Zone_To. The location is read only where its kind can fit.
