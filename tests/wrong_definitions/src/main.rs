@@ -1,6 +1,6 @@
 //! Tries wrong definitions: each definition of `crates/octets/specs`, `crates/model/specs` and `crates/wiegand/specs` with one change in one
 //! place, made by rule (`rules.rs`) or by hand (the file `list`), against the computed cases of `crates/cases`, `crates/model/proofs` and
-//! `crates/wiegand/proofs`. Each shall be refused by a case; those of what the theorems state (`Part`, `Earned`, `Shifts` and `Demands` of the
+//! `crates/wiegand/proofs`. Each shall be refused by a case; those of what the theorems state (`Part`, `Earned`, `Shifts`, `InPlace` and `Demands` of the
 //! model, `Theorems` of the 26-bit readers) by a case or by a theorem's proof.
 //!
 //!     cargo run --release --offline --manifest-path tests/Cargo.toml -p wrong_definitions -- [OPTIONS]

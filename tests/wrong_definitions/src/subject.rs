@@ -45,6 +45,7 @@ impl Subject {
                 "model/specs/Part.antt",
                 "model/specs/Earned.antt",
                 "model/specs/Shifts.antt",
+                "model/specs/InPlace.antt",
                 "model/specs/Demands.antt",
             ],
             Subject::Wiegand => &["wiegand/specs/Theorems.antt"],
