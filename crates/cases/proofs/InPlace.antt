@@ -58,6 +58,9 @@ pub record Read : Type 0 where
   off-short-on : field 9 4 (record-of 2) ∷ field 8 3 (record-of 2) ∷ field 8 4 (record-of 3) ∷ [] ≡ 0x43444546 ∷ 0x424344 ∷ 0x62636465 ∷ []
   -- There is no fifth record; where there is none, nothing is read.
   past-the-end : record-of 4 ≡ []
+  -- So the premises are needed: a field that reaches past its part, and a part that the bytes do not fill, read otherwise in the whole.
+  beyond-the-part : field 30 4 (record-of 0) ∷ field 30 4 campus ∷ [] ≡ 0 ∷ 0x21F ∷ []
+  no-such-part : field 0 1 (partOf 32 4 (campus ++ (5 ∷ []))) ∷ field 128 1 (campus ++ (5 ∷ [])) ∷ [] ≡ 0 ∷ 5 ∷ []
   -- A state's record has 32 bytes too, a journal's entry 24.
   state-record : credentialStateOf (partOf 32 3 campus) .«last_grant» ∷ field 120 4 campus ∷ [] ≡ 0x71727374 ∷ 0x71727374 ∷ []
   entry-fields :
@@ -80,6 +83,8 @@ read =
       ends = refl;
       off-short-on = refl;
       past-the-end = refl;
+      beyond-the-part = refl;
+      no-such-part = refl;
       state-record = refl;
       entry-fields = refl;
       in-the-journal = refl;

@@ -1,4 +1,5 @@
-// The outcome of a factor read at a point in service, of its situation by value: the order of checks, then the effects. Of the site only the rules are read, where step 9 asks them.
+// The outcome of a factor read at a point in service, of its situation by value: the order of checks, then the effects. Of the site only the rules are read,
+// where step 9 asks them.
 ghost use mathlib.Core.Path.{_≡_};
 ghost use Rattle.model.specs.Site.{records};
 ghost use Rattle.model.specs.Checks.{eventOf};

@@ -6,4 +6,4 @@ use Rattle.records.proofs.site.is_out_of_service.Tie as tie
 
 pub is-out-of-service-spec : {M : Type 1} → statement M
 unfolding pointOf
-is-out-of-service-spec = tie.close (tie.spec (λ c κs. search needs) (λ c. cc))
+is-out-of-service-spec = tie.close (tie.spec (λ c κs. search needs) (λ c. c .flag-of .ensures))

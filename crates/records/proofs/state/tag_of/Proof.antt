@@ -6,4 +6,4 @@ use Rattle.records.proofs.state.tag_of.Tie as tie
 
 pub tag-of-spec : {M : Type 1} → statement M
 unfolding pointStateOf
-tag-of-spec = tie.close (tie.spec (λ c κs. search needs) (λ c. cc))
+tag-of-spec = tie.close (tie.spec (λ c κs. search needs) (λ c. c .long-at .ensures))
