@@ -10,7 +10,7 @@ use Rattle.octets.specs.Octets.{field}
 use Rattle.model.specs.Words.{if◌then◌else◌, all, missing}
 use Rattle.model.specs.Numbers as n
 use Rattle.model.specs.Numbers.{NONE}
-use Rattle.model.specs.Site.{records, instance, reference, zone_of, point_of, is_at, find_in}
+use Rattle.model.specs.Site.{records, reference, zone_of, point_of, is_at, find_in}
 use Rattle.model.specs.Accept.{in_range, point_in_range}
 use Rattle.model.specs.State.{Pair, Panel, sites, find, seek, write, count, zone_bytes, fresh_record}
 use Rattle.model.specs.Entry.{entry_of, operation_of, object_kind, answer_bytes}
