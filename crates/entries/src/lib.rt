@@ -3,7 +3,7 @@ pub mod reader; // reader.rt: the entry at a place of the journal, and the next
 pub mod form; // form.rt: the operation that an entry asks for, and refusal 7
 
 // Where the next entry of a journal stands.
-#[derive(Drop)]
+#[derive(Clone, Copy)]
 pub struct Cursor {
     pub at: usize,
 }

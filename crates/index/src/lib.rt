@@ -58,7 +58,7 @@ const SPREAD_TURN: usize = 204;
 const CLASS_SCALE: usize = 262144;
 
 // Where a record goes: its bucket, and the bit of its tag, where it is a rule.
-#[derive(Drop)]
+#[derive(Clone, Copy)]
 pub struct Slot {
     pub bucket: usize,
     pub mark: u16,

@@ -11,7 +11,7 @@ use model::{Outcome, Situation};
 use site::Place;
 
 // Where the records stand that an entry may write.
-#[derive(Drop)]
+#[derive(Clone, Copy)]
 pub struct Places {
     pub point: Place,
     pub credential: Place,
@@ -20,14 +20,14 @@ pub struct Places {
 }
 
 // What a factor read looks at, and where its records stand.
-#[derive(Drop)]
+#[derive(Clone, Copy)]
 pub struct Gathered {
     pub situation: Situation,
     pub places: Places,
 }
 
 // The outcome of an entry, and where the records stand that it writes.
-#[derive(Drop)]
+#[derive(Clone, Copy)]
 pub struct Decided {
     pub outcome: Outcome,
     pub places: Places,

@@ -5,20 +5,20 @@ pub mod numbers; // numbers.rt: the numbers of document 01 by name
 pub mod layout; // layout.rt: where the fields of records, entries and answers stand
 
 // Instances are numbered per object type, so that zone 7 is never credential 7: a number of each type is a type of its own.
-#[derive(Drop)]
+#[derive(Clone, Copy)]
 pub struct ZoneId(pub u32);
 
-#[derive(Drop)]
+#[derive(Clone, Copy)]
 pub struct PointId(pub u32);
 
-#[derive(Drop)]
+#[derive(Clone, Copy)]
 pub struct CredentialId(pub u32);
 
-#[derive(Drop)]
+#[derive(Clone, Copy)]
 pub struct RightsId(pub u32);
 
 // The kinds of site records.
-#[derive(Drop)]
+#[derive(Clone, Copy)]
 pub enum RecordKind {
     OfZone,
     OfPoint,
@@ -29,7 +29,7 @@ pub enum RecordKind {
 }
 
 // The fields of a zone's site record.
-#[derive(Drop)]
+#[derive(Clone, Copy)]
 pub struct Zone {
     pub counting: bool,
     pub passback: u8,
@@ -39,7 +39,7 @@ pub struct Zone {
 }
 
 // The fields of a point's site record.
-#[derive(Drop)]
+#[derive(Clone, Copy)]
 pub struct Point {
     pub out_of_service: bool,
     pub upper_enforced: bool,
@@ -58,7 +58,7 @@ pub struct Point {
 }
 
 // The fields of a credential's site record.
-#[derive(Drop)]
+#[derive(Clone, Copy)]
 pub struct Credential {
     pub master: bool,
     pub passback_exempt: bool,
@@ -75,7 +75,7 @@ pub struct Credential {
 }
 
 // The fields of a point's state record.
-#[derive(Drop)]
+#[derive(Clone, Copy)]
 pub struct PointState {
     pub tag: u32,
     pub failures: u8,
@@ -87,7 +87,7 @@ pub struct PointState {
 }
 
 // The fields of a credential's state record.
-#[derive(Drop)]
+#[derive(Clone, Copy)]
 pub struct CredentialState {
     pub uses: u16,
     pub days: u16,
@@ -102,7 +102,7 @@ pub struct CredentialState {
 }
 
 // A journal entry of 24 bytes; `spare` is bytes 2 and 3.
-#[derive(Drop)]
+#[derive(Clone, Copy)]
 pub struct Entry {
     pub operation: u8,
     pub argument: u8,
@@ -114,7 +114,7 @@ pub struct Entry {
 }
 
 // What an entry asks for.
-#[derive(Drop)]
+#[derive(Clone, Copy)]
 pub enum Operation {
     Factor,
     SetCount,
@@ -125,7 +125,7 @@ pub enum Operation {
 }
 
 // An answer of 16 bytes.
-#[derive(Drop)]
+#[derive(Clone, Copy)]
 pub struct Answer {
     pub event: u16,
     pub marks: u8,
@@ -136,7 +136,7 @@ pub struct Answer {
 }
 
 // All that the order of checks looks at, but for the rules: the point, its zones, the factor read and its credential.
-#[derive(Drop)]
+#[derive(Clone, Copy)]
 pub struct Situation {
     pub point: Point,
     pub point_state: PointState,
@@ -152,7 +152,7 @@ pub struct Situation {
 }
 
 // What the rules of a credential say at a point and a time (step 9).
-#[derive(Drop)]
+#[derive(Clone, Copy)]
 pub struct Verdict {
     pub negative_fits: bool,
     pub positive_fits: bool,
@@ -160,7 +160,7 @@ pub struct Verdict {
 }
 
 // What steps 1 to 4 find.
-#[derive(Drop)]
+#[derive(Clone, Copy)]
 pub struct Authentication {
     pub locked: bool,
     pub overdue: bool,
@@ -173,7 +173,7 @@ pub struct Authentication {
 }
 
 // What step 5 finds.
-#[derive(Drop)]
+#[derive(Clone, Copy)]
 pub struct Validity {
     pub not_yet_active: bool,
     pub expired: bool,
@@ -186,7 +186,7 @@ pub struct Validity {
 }
 
 // What steps 7 to 10 find.
-#[derive(Drop)]
+#[derive(Clone, Copy)]
 pub struct Authorization {
     pub deny_all: bool,
     pub threat: bool,
@@ -200,21 +200,21 @@ pub struct Authorization {
 }
 
 // A state record that an entry writes where the flag is set: of a point, of a credential, of a zone.
-#[derive(Drop)]
+#[derive(Clone, Copy)]
 pub struct PointWrite {
     pub written: bool,
     pub instance: PointId,
     pub state: PointState,
 }
 
-#[derive(Drop)]
+#[derive(Clone, Copy)]
 pub struct CredentialWrite {
     pub written: bool,
     pub instance: CredentialId,
     pub state: CredentialState,
 }
 
-#[derive(Drop)]
+#[derive(Clone, Copy)]
 pub struct CountWrite {
     pub written: bool,
     pub instance: ZoneId,
@@ -222,7 +222,7 @@ pub struct CountWrite {
 }
 
 // What an entry does: its answer, and the state records that it writes.
-#[derive(Drop)]
+#[derive(Clone, Copy)]
 pub struct Outcome {
     pub answer: Answer,
     pub point: PointWrite,
@@ -232,7 +232,7 @@ pub struct Outcome {
 }
 
 // What a call returns: worked through, or why the input is turned back.
-#[derive(Drop)]
+#[derive(Clone, Copy)]
 pub enum Returned {
     WorkedThrough,
     SiteLength,

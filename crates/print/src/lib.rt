@@ -11,7 +11,7 @@ use model::numbers::ENTRY_SIZE;
 use numbers::{LINE_SIZE, NUMBER_SIZE};
 
 // How long the text is, or that its buffer is too short.
-#[derive(Drop)]
+#[derive(Clone, Copy)]
 pub enum Printed {
     Written(usize),
     NoRoom,

@@ -18,7 +18,7 @@ const ANSWERS_ROOM: usize = JOURNAL_ROOM / ENTRY_SIZE * ANSWER_SIZE;
 const TEXT_ROOM: usize = JOURNAL_ROOM / ENTRY_SIZE * LINE_SIZE;
 
 // What was read of a file: how many bytes, and whether they are all of it, or all that there is room for.
-#[derive(Drop)]
+#[derive(Clone, Copy)]
 struct Reading {
     is_read: bool,
     count: usize,

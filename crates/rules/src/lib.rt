@@ -29,7 +29,7 @@ const RULE_CLASSES: usize = 6;
 const LONG_CHAIN: usize = 32;
 
 // What the rules are asked: the rights numbers of a credential, a point with its Zone_To, a time.
-#[derive(Drop)]
+#[derive(Clone, Copy)]
 pub struct Asked {
     pub first: RightsId,
     pub second: RightsId,
@@ -39,7 +39,7 @@ pub struct Asked {
 }
 
 // What a walk along a chain found, and whether it came to the chain's end.
-#[derive(Drop)]
+#[derive(Clone, Copy)]
 pub struct Walked {
     pub verdict: Verdict,
     pub ended: bool,

@@ -10,7 +10,7 @@ pub mod check; // check.rt: whether a site is turned back, and its index
 use model::CredentialId;
 
 // A factor as it is presented: to identify a credential, or to confirm this one.
-#[derive(Drop)]
+#[derive(Clone, Copy)]
 pub struct Presented {
     pub confirms: bool,
     pub credential: CredentialId,
@@ -19,7 +19,7 @@ pub struct Presented {
 }
 
 // Where a record stands among the records of a site.
-#[derive(Drop)]
+#[derive(Clone, Copy)]
 pub enum Place {
     At(usize),
     Nothing,

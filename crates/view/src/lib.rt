@@ -10,7 +10,7 @@ use model::{CredentialId, PointId, Returned, RightsId, ZoneId};
 use site::Presented;
 
 // What a record may be looked up by.
-#[derive(Drop)]
+#[derive(Clone, Copy)]
 pub enum Object {
     Zone(ZoneId),
     Point(PointId),
@@ -19,7 +19,7 @@ pub enum Object {
 }
 
 // A site's bytes, and how many records they hold.
-#[derive(Drop)]
+#[derive(Clone, Copy)]
 pub struct SiteView<'a> {
     pub bytes: &'a [u8],
     pub records: usize,

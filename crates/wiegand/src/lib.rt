@@ -12,14 +12,14 @@ pub const WIEGAND26_BITS: u32 = 26;
 pub const WIEGAND26_NUMBERS: u64 = 67108864;
 
 // Whether bits were worked through, or turned away.
-#[derive(Drop)]
+#[derive(Clone, Copy)]
 pub enum BitsReturned {
     WorkedThrough,
     NotTwentySixBits,
 }
 
 // The factor that bits become. Where they are turned away nothing is made: format 0 and a value of zeros.
-#[derive(Drop)]
+#[derive(Clone, Copy)]
 pub struct Reading {
     pub returned: BitsReturned,
     pub format: u8,

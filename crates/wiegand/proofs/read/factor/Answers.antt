@@ -5,12 +5,8 @@ use native.Mathlib.Nat.{div-one}
 use Rattle.octets.specs.Octets.{digits}
 use Rattle.wiegand.specs.Wiegand.{factor}
 use borrow.Author.Rules.{rules}
-use Rattle.wiegand.proofs.read.factor.Statement.{statement}
-use Rattle.wiegand.proofs.read.factor.Tie as tie
+use Rattle.wiegand.proofs.read.factor.Goals as goal
 
-returns : tie.Need-returns
+pub returns : goal.returns
 unfolding factor digits
 returns c = rw (div-one c.args.facility, div-one (c.args.card % 256)) refl
-
-pub factor-spec : {M : Type 1} → statement M
-factor-spec = tie.close (tie.spec (λ c. search rules) (λ c. search rules) returns)
