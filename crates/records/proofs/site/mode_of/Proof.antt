@@ -1,9 +1,0 @@
--- A field of the point.
-use borrow.Author.Rules.{rules}
-use Rattle.model.specs.Site.{point_of}
-use Rattle.records.proofs.site.mode_of.Statement.{statement}
-use Rattle.records.proofs.site.mode_of.Tie as tie
-
-pub mode-of-spec : {M : Type 1} → statement M
-unfolding point_of
-mode-of-spec = tie.close (tie.spec (λ c κs. search rules) (λ c. cc))

@@ -1,0 +1,8 @@
+-- Each field is read from its place.
+use borrow.Author.Rules.{rules}
+use Rattle.model.specs.Site.{point_of}
+use Rattle.records.proofs.site.point_of.Goals as goal
+
+pub returns : goal.returns
+unfolding point_of
+returns c = cc

@@ -1,9 +1,0 @@
--- A field of the credential.
-use borrow.Author.Rules.{rules}
-use Rattle.model.specs.Site.{credential_of}
-use Rattle.records.proofs.site.second_rights_of.Statement.{statement}
-use Rattle.records.proofs.site.second_rights_of.Tie as tie
-
-pub second-rights-of-spec : {M : Type 1} → statement M
-unfolding credential_of
-second-rights-of-spec = tie.close (tie.spec (λ c κs. search rules) (λ c. rw c.reference-at.ensures))

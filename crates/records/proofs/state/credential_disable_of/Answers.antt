@@ -1,0 +1,8 @@
+-- Read from its place.
+use borrow.Author.Rules.{rules}
+use Rattle.model.specs.State.{credential_state_of}
+use Rattle.records.proofs.state.credential_disable_of.Goals as goal
+
+pub returns : goal.returns
+unfolding credential_state_of
+returns c = cc

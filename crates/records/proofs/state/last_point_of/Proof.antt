@@ -1,9 +1,0 @@
--- Read from its place.
-use borrow.Author.Rules.{rules}
-use Rattle.model.specs.State.{credential_state_of}
-use Rattle.records.proofs.state.last_point_of.Statement.{statement}
-use Rattle.records.proofs.state.last_point_of.Tie as tie
-
-pub last-point-of-spec : {M : Type 1} → statement M
-unfolding credential_state_of
-last-point-of-spec = tie.close (tie.spec (λ c κs. search rules) (λ c. cc))

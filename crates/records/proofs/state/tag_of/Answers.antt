@@ -1,0 +1,8 @@
+-- A field of the point's state.
+use borrow.Author.Rules.{rules}
+use Rattle.model.specs.State.{point_state_of}
+use Rattle.records.proofs.state.tag_of.Goals as goal
+
+pub returns : goal.returns
+unfolding point_state_of
+returns c = c.long_at.ensures

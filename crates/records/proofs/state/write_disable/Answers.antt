@@ -1,0 +1,6 @@
+-- Disable, then wrong tries.
+use borrow.Author.Rules.{rules}
+use Rattle.records.proofs.state.write_disable.Goals as goal
+
+pub returns : goal.returns
+returns c = rw (c.put_u8-2.ensures, c.put_u8.ensures)
