@@ -5,18 +5,14 @@ use native.Mathlib.Omega.{arith}
 use borrow.Author.Rules.{rules}
 use lib.Pow.{pow-lt}
 use Rattle.index.specs.Index.{tags, bucket_of, mark_of}
-use Rattle.index.proofs.slot_of_rule.Statement.{statement}
-use Rattle.index.proofs.slot_of_rule.Tie as tie
+use Rattle.index.proofs.slot_of_rule.Goals as goal
 
-returns : tie.Need-returns
+pub returns : goal.returns
 unfolding bucket_of mark_of
 returns c =
-    let k = c.before.before.requires.1 in
-    let r = c.class-of-rule in
+    let k = c.requires.1 in
+    let r = c.class_of_rule-class in
     let t = r.result % tags in
     let l : 2 ^ t < 32 = pow-lt {i = t} {j = 5} (omega arith) in
     let e : 1 * 2 ^ t % 65536 ≡ 2 ^ t = omega arith in
     record { bucket = rw (k, ← r.ensures.0); within = omega (arith, r.ensures.1); mark = rw (e, k, ← r.ensures.0); small = omega arith }
-
-pub slot-of-rule-spec : {M : Type 1} → statement M
-slot-of-rule-spec = tie.close (tie.spec (λ c κs. search rules) (λ c. search rules) (λ c. search rules) returns)

@@ -1,0 +1,9 @@
+-- The definition's own sum and remainder.
+use native.Mathlib.Omega.{arith}
+use borrow.Author.Rules.{rules}
+use Rattle.index.specs.Index.{rule_class}
+use Rattle.index.proofs.rule_class.Goals as goal
+
+pub returns : goal.returns
+unfolding rule_class
+returns c = (rw c.mixed.ensures, omega arith)
