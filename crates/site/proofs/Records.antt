@@ -41,10 +41,12 @@ found_whole q site m = whole q (length site / 32) site (omega arith) m
 -- Where every record passes, the i-th does; where one does not, not every one does.
 module _ (q : List ℕ → Bool) where
   pub all_at : (ss : List (List ℕ)) → all q ss ≡ true → (i : ℕ) → i < length ss → q (get_or ss i []) ≡ true
+  all_at [] h i l = elim l [ ]
   all_at (s ∷ ss) h zero l = and_left (q s) (all q ss) h
   all_at (s ∷ ss) h (suc i) l = all_at ss (and_right (q s) (all q ss) h) i (omega arith)
 
   pub all_not : (ss : List (List ℕ)) (i : ℕ) → i < length ss → q (get_or ss i []) ≡ false → all q ss ≡ false
+  all_not [] i l h = elim l [ ]
   all_not (s ∷ ss) zero l h = rw h
   all_not (s ∷ ss) (suc i) l h = rw (all_not ss i (omega arith) h) (and-false (q s))
 

@@ -1,0 +1,6 @@
+-- Both zones of the point: each test is the definition's.
+use borrow.Author.Rules.{rules}
+use Rattle.site.proofs.names.zones_exist.Goals as goal
+
+pub returns : goal.returns
+returns c = cc
