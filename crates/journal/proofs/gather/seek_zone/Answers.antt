@@ -1,0 +1,13 @@
+-- NONE names nothing.
+use borrow.Author.Rules.{rules}
+use borrow.Author.Tests.{eq-eqb, ne_eqb}
+use Rattle.journal.specs.Places.{seek_place}
+use Rattle.journal.proofs.gather.seek_zone.Goals as goal
+
+pub returns-then-zone-eq-NONE : goal.returns-then-zone-eq-NONE
+unfolding seek_place
+returns-then-zone-eq-NONE c = rw (eq-eqb _ _ c.if-zone-eq-NONE.true)
+
+pub returns : goal.returns
+unfolding seek_place
+returns c = rw (ne_eqb _ _ c.if-zone-eq-NONE.false) c.place_of_zone.ensures

@@ -1,0 +1,6 @@
+-- The point, and the count of its Zone_To.
+use borrow.Author.Rules.{rules}
+use Rattle.journal.proofs.step.service_at.Goals as goal
+
+pub returns : goal.returns
+returns c = cc

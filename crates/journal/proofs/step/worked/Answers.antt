@@ -1,0 +1,23 @@
+-- Each operation at its object.
+use mathlib.Core.Path.{◌≡◌}
+use borrow.Author.Rules.{rules}
+use Rattle.model.specs.declared.Operation.TheVariants.{Factor, SetCount, AdjustCount, SetDisable, SetService, Unknown}
+use Rattle.journal.proofs.step.worked.Goals as goal
+
+pub returns-in-Factor : goal.returns-in-Factor
+returns-in-Factor c = let o : c.args.o ≡ Factor = cc in rw o cc
+
+pub returns-in-SetCount : goal.returns-in-SetCount
+returns-in-SetCount c = let o : c.args.o ≡ SetCount = cc in rw o cc
+
+pub returns-in-AdjustCount : goal.returns-in-AdjustCount
+returns-in-AdjustCount c = let o : c.args.o ≡ AdjustCount = cc in rw o cc
+
+pub returns-in-SetDisable : goal.returns-in-SetDisable
+returns-in-SetDisable c = let o : c.args.o ≡ SetDisable = cc in rw o cc
+
+pub returns-in-SetService : goal.returns-in-SetService
+returns-in-SetService c = let o : c.args.o ≡ SetService = cc in rw o cc
+
+pub returns-in-Unknown : goal.returns-in-Unknown
+returns-in-Unknown c = let o : c.args.o ≡ Unknown = cc in rw o cc
