@@ -1,0 +1,18 @@
+-- The lines of the first k answers are written.
+use Prim.Native.Nat.{ℕ, ◌*◌, ◌-◌, ◌/◌, ◌≤◌, ◌<◌}
+use native.Mathlib.Omega.{arith}
+use mathlib.Core.Path.{◌≡◌, refl, sym}
+use mathlib.Core.List.{List, []}
+use borrow.Author.Rules.{rules}
+use lib.ListN.{length}
+use Rattle.octets.proofs.Groups.{length_groups}
+use Rattle.model.specs.Lists.{answers_in}
+use Rattle.model.specs.Print.{hex_line, answers_text}
+use Rattle.octets.proofs.Written.{written, written_start, written_step, written_end, head_length}
+use Rattle.print.proofs.lines.write_answers.Given as goal
+
+abbrev pub invariant-loop-k : goal.invariant-loop-k
+invariant-loop-k l = (l.k ≤ l.n) × (length l.text ≡ length l.initial.text) × (l.text ≡ written hex_line 33 (answers_in l.answers) l.initial.text l.k)
+
+abbrev pub decreases-loop-k : goal.decreases-loop-k
+decreases-loop-k l = l.n - l.k
