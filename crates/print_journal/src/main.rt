@@ -32,6 +32,11 @@ struct Reading {
     count: usize,
 }
 
+const UNREAD: Reading = Reading {
+    is_read: false,
+    count: 0,
+};
+
 // A message on standard error. Where it cannot be written, nothing more can be said.
 fn say(rt: &HostRuntime, what: &str) {
     let _ = eprintln!(rt; "{what}");
@@ -40,16 +45,6 @@ fn say(rt: &HostRuntime, what: &str) {
 // What failed, and why.
 fn fail(rt: &HostRuntime, what: &str, error: io::Error) {
     let _ = eprintln!(rt; "{what}: {error}");
-}
-
-// Nothing was read.
-fn unread() -> Reading
-    ensures { result.count ≡ 0 }
-{
-    Reading {
-        is_read: false,
-        count: 0,
-    }
 }
 
 // Reads until the file ends or the buffer is full, or says why it cannot.
@@ -84,7 +79,7 @@ fn read_path(rt: &HostRuntime, path: &str, bytes: &mut [u8]) -> Reading
         Ok(mut file) => read_open(rt, path, &mut file, bytes),
         Err(error) => {
             fail(rt, path, error);
-            unread()
+            UNREAD
         }
     }
 }
@@ -99,12 +94,12 @@ fn read_file(rt: &HostRuntime, i: usize, bytes: &mut [u8]) -> Reading
             Ok(path) => read_path(rt, path, bytes),
             Err(_) => {
                 say(rt, "file name: not UTF-8");
-                unread()
+                UNREAD
             }
         },
         Err(_) => {
             say(rt, "file name: too long");
-            unread()
+            UNREAD
         }
     }
 }
