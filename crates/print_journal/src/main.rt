@@ -128,7 +128,7 @@ fn print_bytes(
 }
 
 fn main(rt: HostRuntime) {
-    if !is_given(&rt, 2) | is_given(&rt, 3) {
+    if !is_given(&rt, 2) || is_given(&rt, 3) {
         say(&rt, "usage: print_journal SITE JOURNAL");
         return;
     }

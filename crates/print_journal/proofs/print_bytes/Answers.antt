@@ -1,5 +1,5 @@
 -- The text's length that the call returns is within the text (`written_fits`).
-use Rattle.std.proofs.Common.{◌≡◌, ◌≤◌, length}
+use Rattle.std.proofs.Common.{◌≡◌}
 use native.Mathlib.Omega.{arith}
 use lib.ListN.{length-take}
 use Rattle.print.proofs.Text.{written_fits}
