@@ -1,11 +1,16 @@
 // Prints one journal: the first argument names a site file and the second a journal file, and the text goes to standard output.
 // Where an argument is missing, or a file cannot be read, a message goes to standard error, and nothing is printed.
+#![tactic(auto)]
+
 ghost use Rattle.io.specs.Counts.{IsPrefixLen};
 
-use libc::{STDERR_FILENO, STDOUT_FILENO};
 use model::numbers::{ANSWER_SIZE, ENTRY_SIZE, LARGEST_JOURNAL, LARGEST_SITE};
 use print::Printed;
 use print::numbers::LINE_SIZE;
+use std::env::{Env, FillError};
+use std::fs::File;
+use std::io;
+use std::io::{Read, Write};
 
 // A byte more than the largest file that is worked through: a larger one fills its buffer, and is turned back by its length.
 const SITE_ROOM: usize = LARGEST_SITE + 1;
@@ -17,6 +22,9 @@ const ANSWERS_ROOM: usize = JOURNAL_ROOM / ENTRY_SIZE * ANSWER_SIZE;
 
 const TEXT_ROOM: usize = JOURNAL_ROOM / ENTRY_SIZE * LINE_SIZE;
 
+// No longer name is opened.
+const PATH_ROOM: usize = 4096;
+
 // What was read of a file: how many bytes, and whether they are all of it, or all that there is room for.
 #[derive(Clone, Copy)]
 struct Reading {
@@ -24,81 +32,113 @@ struct Reading {
     count: usize,
 }
 
-// Whether a file has no more bytes. A read that fails is no end.
-fn is_at_end(fd: i32) -> bool {
-    let mut next = [0u8; 1];
-    libc::read(fd, &mut next) == 0
+const UNREAD: Reading = Reading {
+    is_read: false,
+    count: 0,
+};
+
+// A message on standard error. Where it cannot be written, nothing more can be said.
+fn say(rt: &HostRuntime, what: &str) {
+    let _ = eprintln!(rt; "{what}");
 }
 
-// Reads until the file ends or the buffer is full.
-fn read_open(fd: i32, bytes: &mut [u8]) -> Reading
+// What failed, and why.
+fn fail(rt: &HostRuntime, what: &str, error: io::Error) {
+    let _ = eprintln!(rt; "{what}: {error}");
+}
+
+// Reads until the file ends or the buffer is full, or says why it cannot.
+fn read_open(rt: &HostRuntime, path: &str, file: &mut File, bytes: &mut [u8]) -> Reading
     ensures { IsPrefixLen result.count bytes.new }
 {
-    let count = io::read_full(fd, bytes);
-    if count == bytes.len() {
-        return Reading {
-            is_read: true,
-            count,
-        };
+    let mut count = 0;
+    while count < bytes.len() {
+        match file.read(&mut bytes[count..]) {
+            Ok(0) => break,
+            Ok(n) => count += n,
+            Err(error) => {
+                fail(rt, path, error);
+                return Reading {
+                    is_read: false,
+                    count,
+                };
+            }
+        }
     }
     Reading {
-        is_read: is_at_end(fd),
+        is_read: true,
         count,
     }
 }
 
-// Reads the file that argument i names, or says why it cannot.
-fn read_file(i: usize, bytes: &mut [u8]) -> Reading
+// Reads the file of this name, or says why it cannot.
+fn read_path(rt: &HostRuntime, path: &str, bytes: &mut [u8]) -> Reading
     ensures { IsPrefixLen result.count bytes.new }
 {
-    let mut path = io::buffer();
-    let n = os::arg(i, &mut path);
-    if os::errno() != 0 {
-        os::fail(b"file name");
-        return Reading {
-            is_read: false,
-            count: 0,
-        };
+    match File::open(rt, path) {
+        Ok(mut file) => read_open(rt, path, &mut file, bytes),
+        Err(error) => {
+            fail(rt, path, error);
+            UNREAD
+        }
     }
-    let fd = os::open_read(&path[..n]);
-    if fd < 0 {
-        os::fail(&path[..n]);
-        return Reading {
-            is_read: false,
-            count: 0,
-        };
+}
+
+// Reads the file that argument i names, or says why it cannot.
+fn read_file(rt: &HostRuntime, i: usize, bytes: &mut [u8]) -> Reading
+    ensures { IsPrefixLen result.count bytes.new }
+{
+    let mut name = [0u8; PATH_ROOM];
+    match rt.arg(i, &mut name) {
+        Ok(n) => match str::from_utf8(&name[..n]) {
+            Ok(path) => read_path(rt, path, bytes),
+            Err(_) => {
+                say(rt, "file name: not UTF-8");
+                UNREAD
+            }
+        },
+        Err(_) => {
+            say(rt, "file name: too long");
+            UNREAD
+        }
     }
-    let reading = read_open(fd, bytes);
-    if !reading.is_read {
-        os::fail(&path[..n]);
-    }
-    libc::close(fd);
-    reading
+}
+
+// Whether argument i is there.
+fn is_given(rt: &HostRuntime, i: usize) -> bool {
+    !matches!(rt.arg(i, &mut []), Err(FillError::NotPresent))
 }
 
 // Prints the journal of these bytes. State, answers and text are lent to work in; those of main have room for every journal that it reads.
-fn print_bytes(site: &[u8], journal: &[u8], state: &mut [u8], answers: &mut [u8], text: &mut [u8]) {
+fn print_bytes(
+    rt: &HostRuntime,
+    site: &[u8],
+    journal: &[u8],
+    state: &mut [u8],
+    answers: &mut [u8],
+    text: &mut [u8],
+) {
     let Printed::Written(length) = print::print_journal(site, journal, state, answers, text) else {
-        io::write_all(STDERR_FILENO, b"print_journal: no room for the text\n");
+        say(rt, "print_journal: no room for the text");
         return;
     };
-    if !io::write_all(STDOUT_FILENO, &text[..length]) {
-        os::fail(b"standard output");
+    if let Err(error) = rt.stdout().write_all(&text[..length]) {
+        fail(rt, "standard output", error);
     }
 }
 
-fn main() {
-    if os::arg_count() != 3 {
-        io::write_all(STDERR_FILENO, b"usage: print_journal SITE JOURNAL\n");
+fn main(rt: HostRuntime) {
+    if !is_given(&rt, 2) || is_given(&rt, 3) {
+        say(&rt, "usage: print_journal SITE JOURNAL");
         return;
     }
     let mut site = [0u8; SITE_ROOM];
-    let site_file = read_file(1, &mut site);
+    let site_file = read_file(&rt, 1, &mut site);
     if !site_file.is_read {
         return;
     }
     let mut journal = [0u8; JOURNAL_ROOM];
-    let journal_file = read_file(2, &mut journal);
+    let journal_file = read_file(&rt, 2, &mut journal);
     if !journal_file.is_read {
         return;
     }
@@ -109,6 +149,7 @@ fn main() {
     let m = journal_file.count;
     let k = m / ENTRY_SIZE * ANSWER_SIZE;
     print_bytes(
+        &rt,
         &site[..n],
         &journal[..m],
         &mut state[..n],

@@ -1,4 +1,6 @@
 // The calls for C, each with the number of its outcome, and the lookups, with that of a place. A slice passes as a pointer and a length.
+#![tactic(auto)]
+
 ghost use Rattle.std.specs.Prelude.{◌≡◌};
 ghost use Rattle.model.specs.Numbers.{access_zone, access_point, access_credential};
 ghost use Rattle.model.specs.Calls.{number, check_site, fresh_state, check_state, run_journal};

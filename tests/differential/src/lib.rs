@@ -1,8 +1,8 @@
 //! The proved engine beside the `reference` crate: its calls, the comparison of one call through
 //! both engines, and what the tests share. The benchmark has it beside the engines of `plain`.
 //!
-//! At the repository's root, `bash library/build` writes the library that is linked here and
-//! `rt check` the printing program. Then:
+//! At the repository's root, `bash library/build` writes the library that is linked here, and
+//! `rt ci`, or `rt run` in crates/print_journal, the printing program. Then:
 //!
 //! ```text
 //! cargo test --release --offline --manifest-path tests/Cargo.toml

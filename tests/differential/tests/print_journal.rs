@@ -11,14 +11,15 @@ use std::fs;
 use std::path::{Path, PathBuf};
 use std::process::{Command, Output};
 
-/// The program that `rt check` writes, or the one in WARBLEHAY_BIN_DIR.
+/// The program that `rt ci` and `rt run` leave in its crate, or the one in WARBLEHAY_BIN_DIR.
 fn program() -> PathBuf {
-    let of_repository = || Path::new(env!("CARGO_MANIFEST_DIR")).join("../../target/bin");
+    let of_repository =
+        || Path::new(env!("CARGO_MANIFEST_DIR")).join("../../crates/print_journal/out");
     let directory = env::var_os("WARBLEHAY_BIN_DIR").map_or_else(of_repository, PathBuf::from);
     let program = directory.join("print_journal");
     assert!(
         program.is_file(),
-        "{} is missing: run `rt check` first",
+        "{} is missing: `rt run` in crates/print_journal first",
         program.display()
     );
     program
