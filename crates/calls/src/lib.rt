@@ -1,4 +1,6 @@
 // The calls, on slices. Every call checks the site anew, and nothing is written before all checks have passed.
+#![tactic(auto)]
+
 ghost use Rattle.std.specs.Prelude.{◌≡◌, length};
 ghost use Rattle.model.specs.Calls.{number, is_worked, check_site, fresh_returned, fresh_result, fresh_state, check_state, run_returned, run_result, run_journal};
 ghost use Rattle.index.specs.Index.{index_size};

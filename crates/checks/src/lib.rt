@@ -1,5 +1,7 @@
 // The order of checks of document 01, operation 1, in two moves: the event that a factor read at a point comes to.
 // Steps 1 to 5 come first and are worked once; then the rules are walked where step 9 asks them, and steps 6 to 12 follow.
+#![tactic(auto)]
+
 ghost use Rattle.std.specs.Prelude.{◌≡◌};
 ghost use Rattle.checks.specs.Moves.{before_permission, asks_rules, no_verdict, event_after};
 

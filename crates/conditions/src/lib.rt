@@ -1,4 +1,6 @@
 // What both the order of checks and the effects ask of a situation.
+#![tactic(auto)]
+
 ghost use Rattle.std.specs.Prelude.{◌≡◌};
 ghost use Rattle.model.specs.Checks.{relinquished, still_locked, waiting, into_zone, passback_violated};
 

@@ -2,6 +2,8 @@
 // index has a link for each record, the next record of its bucket in file order, then a head for each bucket, its first record, and then the first and
 // the last record of each kind. The number of records ends a chain. Above the record's number a link or a head has the tags of the rules from there on
 // in its chain, a bit each, so that a walk for rules ends where none of their tag is left. Nothing else knows where these stand.
+#![tactic(auto)]
+
 ghost use Rattle.std.specs.Prelude.{◌≡◌, [], ℕ, ◌+◌, ◌*◌, ◌/◌, ◌%◌, ◌≤◌, ◌<◌, eqb, ltb, length, get_or};
 ghost use Rattle.std.specs.Int.Bits.{bit_or};
 ghost use Rattle.model.specs.Words.{if◌then◌else◌, bit};

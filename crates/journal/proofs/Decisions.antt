@@ -17,7 +17,7 @@ use Rattle.model.proofs.Laws.{if_holds}
 use Rattle.site.specs.Place.{place_of}
 use Rattle.site.proofs.Places.{place_found}
 use Rattle.journal.specs.Places.{part_at, object_place, applied, Placed}
-use Rattle.journal.specs.Gather.{to_at, count_to, gathered}
+use Rattle.journal.specs.Gather.{to_at, count_to}
 use Rattle.journal.specs.Decide.{read_outcome, object_places, at_object, served_at, read_at, worked_at, found_at, decided_as, decided_on}
 use Rattle.journal.proofs.At.{find_at, seek_at, apply_at, state_of_panel}
 use Rattle.journal.proofs.Situations.{situation_at, rules_at_law, placed_factor}

@@ -1,5 +1,7 @@
 // A journal run over lent bytes. The way of an entry goes forward: its form and its object, the records that it looks at, gathered by value, its outcome,
 // and the records that it writes, each lent to its writer.
+#![tactic(auto)]
+
 pub mod object; // object.rt: where the object of an entry stands
 pub mod gather; // gather.rt: the records that a factor read looks at
 pub mod decide; // decide.rt: the outcome of a factor read

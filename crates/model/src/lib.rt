@@ -1,5 +1,6 @@
 // The values of document 01 as structs and enums: what the definitions in specs/ speak of and what the engine passes by value.
 // A struct for each kind of record holds the fields that decisions read; rules and factors are read in place, out of their records.
+#![tactic(auto)]
 
 pub mod numbers; // numbers.rt: the numbers of document 01 by name
 pub mod layout; // layout.rt: where the fields of records, entries and answers stand

@@ -1,4 +1,6 @@
 // Numbers of 1, 2, 4 and 8 bytes, big-endian, at an offset of a lent part; 32-byte groups of a slice; comparison of two runs of bytes.
+#![tactic(auto)]
+
 ghost use Rattle.std.specs.Prelude.{◌≡◌, [], ◌+◌, ◌/◌, ◌≤◌, ◌<◌, length, get_or};
 ghost use Rattle.octets.specs.Octets.{field, put, groups, same};
 

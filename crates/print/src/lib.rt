@@ -1,4 +1,6 @@
 // One journal printed: its answers as text, or the number of an input that is turned back.
+#![tactic(auto)]
+
 pub mod numbers; // numbers.rt: the characters, and how long a line is
 mod lines; // lines.rt: answers in hexadecimal digits, numbers in decimal
 

@@ -1,6 +1,7 @@
 // Step 9 of the order of checks: what the enabled rules of a credential's rights say at a point and a time.
 // Rules are found by the index of the site. A rule is its record, a 32-byte part of the lent site, and each field is read out of it where it is asked
 // and not before.
+#![tactic(auto)]
 
 ghost use Rattle.std.specs.Prelude.{◌≡◌, [], ◌∷◌, true, ◌≤◌, ◌<◌, length};
 ghost use Rattle.model.specs.Site.{records, negative};

@@ -1,5 +1,7 @@
 // The check of a site file, and the lookups in it: on any slice, and by the index of a site. A lookup takes a number of its own type; what goes by a kind
 // and a bare number stays inside this crate.
+#![tactic(auto)]
+
 pub mod lookup; // lookup.rt: the record that a number names, and its place, on any slice
 pub mod indexed; // indexed.rt: the same by the index of the site
 pub mod range; // range.rt: whether a field is out of range

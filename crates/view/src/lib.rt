@@ -1,5 +1,7 @@
 // The view of a site, and the calls that work on it. It remembers the site's bytes and how many records they hold; the calls check them anew.
 // Functions over the view only take it apart; the work is done by functions over slices.
+#![tactic(auto)]
+
 ghost use Rattle.std.specs.Prelude.{◌≡◌, length};
 ghost use Rattle.model.specs.Site.{records, lookup, find_in};
 ghost use Rattle.model.specs.Calls.{check_site, fresh_result, fresh_state, check_state, run_result, run_journal};

@@ -1,4 +1,5 @@
 // Raw 26-bit readers (document 02, job 12): what the definitions in specs/ speak of, and the two ways.
+#![tactic(auto)]
 
 pub mod read; // read.rt: the bits of a reader to the factor of a journal entry
 pub mod write; // write.rt: the way back, from facility and card to bits

@@ -1,8 +1,7 @@
 -- What the check of the site returns is handed on; else the lengths are compared. A site that passed has its index.
 use mathlib.Core.Path.{sym, ◌∙◌}
-use borrow.Author.Tests.{eq-eqb, ne_eqb, not-true, not-false}
+use borrow.Author.Tests.{eq-eqb, ne_eqb}
 use Rattle.model.specs.Calls.{fresh_returned}
-use borrow.Author.Rules.{rules}
 use Rattle.calls.proofs.fresh_returned.Goals as goal
 
 pub returns-then-not-is_worked : goal.returns-then-not-is_worked

@@ -1,6 +1,5 @@
 -- The number that is compared is that of the outcome.
 use Rattle.model.specs.Calls.{is_worked}
-use borrow.Author.Rules.{rules}
 use Rattle.calls.proofs.is_worked.Goals as goal
 
 pub returns : goal.returns

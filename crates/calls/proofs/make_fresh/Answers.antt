@@ -1,9 +1,7 @@
 -- Turned back, the state is as it was; worked through, it is what the writer leaves.
 use mathlib.Core.Path.{sym, ◌∙◌}
-use borrow.Author.Tests.{not-true, not-false}
 use Rattle.model.specs.Calls.{fresh_state}
 use Rattle.model.proofs.Entries.{lengths}
-use borrow.Author.Rules.{rules}
 use Rattle.calls.proofs.make_fresh.Goals as goal
 
 pub returns-then-not-is_worked : goal.returns-then-not-is_worked

@@ -5,9 +5,8 @@ use mathlib.Core.Path.{◌≡◌, sym, ◌∙◌}
 use mathlib.Core.Bool.{true, false, not, ◌||◌}
 use lib.Dec.{eqb, ltb}
 use lib.ListN.{length}
-use borrow.Author.Tests.{eq-eqb, ne_eqb, not-true, not-false}
+use borrow.Author.Tests.{eq-eqb, ne_eqb}
 use Rattle.model.specs.Calls.{run_returned}
-use borrow.Author.Rules.{rules}
 use Rattle.calls.proofs.run_returned.Goals as goal
 
 pub returns-then-not-is_worked : goal.returns-then-not-is_worked

@@ -1,8 +1,6 @@
 -- Refusals 1 to 5 are handed on; else the state is tested by the index that they have left.
 use mathlib.Core.Path.{sym, ◌∙◌}
-use borrow.Author.Tests.{not-true, not-false}
 use Rattle.model.specs.Calls.{check_state}
-use borrow.Author.Rules.{rules}
 use Rattle.model.proofs.Entries.{lengths}
 use Rattle.calls.proofs.state_returned.Goals as goal
 

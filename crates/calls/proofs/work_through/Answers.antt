@@ -1,9 +1,7 @@
 -- Turned back, state and answers are as they were; worked through, they are what the run leaves.
 use mathlib.Core.Path.{sym, ◌∙◌}
-use borrow.Author.Tests.{not-true, not-false}
 use Rattle.model.specs.Calls.{run_journal}
 use Rattle.calls.proofs.Laws.{run_lengths}
-use borrow.Author.Rules.{rules}
 use Rattle.calls.proofs.work_through.Goals as goal
 
 pub returns-then-not-is_worked : goal.returns-then-not-is_worked

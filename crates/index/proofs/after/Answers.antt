@@ -2,7 +2,6 @@
 use Prim.Native.Nat.{◌%◌}
 use mathlib.Core.Path.{sym, ap, ◌∙◌}
 use native.Mathlib.Omega.{arith}
-use borrow.Author.Rules.{rules}
 use Rattle.model.specs.Site.{kind, records}
 use Rattle.index.specs.Index.{kind_classes, next_in}
 use Rattle.index.proofs.Walks.{kind_later, kind_past}

@@ -1,5 +1,4 @@
 -- The rights number, with the location unless everywhere.
-use borrow.Author.Rules.{rules}
 use Rattle.index.specs.Index.{class_of_rule}
 use Rattle.index.proofs.class_of_rule.Goals as goal
 
@@ -10,14 +9,13 @@ returns-then-is_everywhere c =
 
 pub returns : goal.returns
 unfolding class_of_rule
-returns c =
-    (
-      rw (
-        ← c.is_everywhere.ensures,
-        c.if-is_everywhere.false,
-        ← c.instance_of-rights.ensures,
-        ← c.location_kind_of.ensures,
-        ← c.location_of.ensures,
-      ) c.rule_class-2.ensures.0,
-      c.rule_class-2.ensures.1,
-    )
+returns c = (
+  rw (
+    ← c.is_everywhere.ensures,
+    c.if-is_everywhere.false,
+    ← c.instance_of-rights.ensures,
+    ← c.location_kind_of.ensures,
+    ← c.location_of.ensures,
+  ) c.rule_class-2.ensures.0,
+  c.rule_class-2.ensures.1,
+)

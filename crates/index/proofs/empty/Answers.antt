@@ -1,11 +1,8 @@
-use Prim.Native.Nat.{◌-◌, ◌≤◌}
-use mathlib.Core.Path.{◌≡◌, ◌∙◌}
+use mathlib.Core.Path.{◌∙◌}
 use native.Mathlib.Omega.{arith}
 use borrow.Author.Rules.{rules}
-use lib.ListN.{length}
 use Rattle.model.specs.Site.{records}
-use Rattle.index.specs.Index.{most_records, index_size}
-use Rattle.index.proofs.Building.{Emptied, emptied_more, emptied}
+use Rattle.index.proofs.Building.{emptied_more, emptied}
 use Rattle.index.proofs.empty.Goals as goal
 
 pub loop-i-init : goal.loop-i-init

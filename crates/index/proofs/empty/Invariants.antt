@@ -1,12 +1,10 @@
 -- Every head that was passed holds the number of records.
 use Prim.Native.Nat.{◌-◌, ◌≤◌}
-use mathlib.Core.Path.{◌≡◌, ◌∙◌}
-use native.Mathlib.Omega.{arith}
-use borrow.Author.Rules.{rules}
+use mathlib.Core.Path.{◌≡◌}
 use lib.ListN.{length}
 use Rattle.model.specs.Site.{records}
 use Rattle.index.specs.Index.{most_records, index_size}
-use Rattle.index.proofs.Building.{Emptied, emptied_more, emptied}
+use Rattle.index.proofs.Building.{Emptied}
 use Rattle.index.proofs.empty.Given as goal
 
 abbrev pub invariant-loop-i : goal.invariant-loop-i

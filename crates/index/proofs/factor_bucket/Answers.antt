@@ -2,7 +2,6 @@
 use Prim.Native.Nat.{◌+◌, ◌/◌, ◌%◌, ◌<◌}
 use mathlib.Core.Path.{◌≡◌}
 use native.Mathlib.Omega.{arith}
-use borrow.Author.Rules.{rules}
 use Rattle.octets.specs.Octets.{field}
 use Rattle.octets.proofs.Laws.{field_join, field_bound}
 use Rattle.index.proofs.factor_bucket.Goals as goal

@@ -1,5 +1,4 @@
 -- The head of the class.
-use borrow.Author.Rules.{rules}
 use Rattle.index.proofs.first_of_kind.Goals as goal
 
 pub returns : goal.returns

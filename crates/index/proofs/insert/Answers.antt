@@ -1,5 +1,4 @@
 -- By whether the record is a rule.
-use borrow.Author.Rules.{rules}
 use Rattle.index.proofs.insert.Goals as goal
 
 pub put-requires : goal.put-requires

@@ -1,5 +1,4 @@
 -- The last record of the class.
-use borrow.Author.Rules.{rules}
 use Rattle.index.proofs.last_of_kind.Goals as goal
 
 pub returns : goal.returns

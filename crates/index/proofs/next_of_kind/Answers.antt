@@ -1,11 +1,9 @@
-use Prim.Native.Nat.{◌<◌, ◌-◌}
-use mathlib.Core.Path.{◌≡◌, refl, sym, ◌∙◌}
+use Prim.Native.Nat.{◌<◌}
+use mathlib.Core.Path.{refl, sym, ◌∙◌}
 use native.Mathlib.Omega.{arith}
-use borrow.Author.Rules.{rules}
 use borrow.Author.Tests.{eq-eqb, ne_eqb}
 use lib.ListN.{length}
 use Rattle.model.specs.Site.{kind, records}
-use Rattle.index.specs.Index.{next_in}
 use Rattle.index.proofs.Walks.{next_turn, next_end}
 use Rattle.index.proofs.next_of_kind.Goals as goal
 

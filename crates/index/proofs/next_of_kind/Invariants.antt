@@ -1,13 +1,9 @@
 -- Record by record: the next of the kind in what is left is the next from the start.
-use Prim.Native.Nat.{◌<◌, ◌-◌}
-use mathlib.Core.Path.{◌≡◌, refl, sym, ◌∙◌}
-use native.Mathlib.Omega.{arith}
-use borrow.Author.Rules.{rules}
-use borrow.Author.Tests.{eq-eqb, ne_eqb}
+use Prim.Native.Nat.{◌-◌}
+use mathlib.Core.Path.{◌≡◌}
 use lib.ListN.{length}
 use Rattle.model.specs.Site.{kind, records}
 use Rattle.index.specs.Index.{next_in}
-use Rattle.index.proofs.Walks.{next_turn, next_end}
 use Rattle.index.proofs.next_of_kind.Given as goal
 
 abbrev pub invariant-loop-i : goal.invariant-loop-i

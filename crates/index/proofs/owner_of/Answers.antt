@@ -1,5 +1,4 @@
 -- An identifying factor has no owner in its bucket.
-use borrow.Author.Rules.{rules}
 use borrow.Author.Tests.{eq-eqb, ne_eqb}
 use Rattle.index.specs.Index.{owner}
 use Rattle.index.proofs.owner_of.Goals as goal

@@ -1,8 +1,7 @@
 -- The tags are five bits, and stay five with a mark of five.
-use Prim.Native.Nat.{◌/◌, ◌<◌}
+use Prim.Native.Nat.{◌/◌}
 use native.Mathlib.Omega.{arith}
-use borrow.Author.Rules.{rules}
-use lib.Bits.{bit_or, or_lt}
+use lib.Bits.{or_lt}
 use Rattle.index.specs.Index.{chain_scale}
 use Rattle.index.proofs.put_before.Goals as goal
 

@@ -1,6 +1,5 @@
 -- The definition's own sum and remainder.
 use native.Mathlib.Omega.{arith}
-use borrow.Author.Rules.{rules}
 use Rattle.index.specs.Index.{rule_class}
 use Rattle.index.proofs.rule_class.Goals as goal
 

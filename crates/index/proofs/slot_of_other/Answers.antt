@@ -1,6 +1,5 @@
 -- By what a factor or a record of another kind is looked up by.
 use native.Mathlib.Omega.{arith}
-use borrow.Author.Rules.{rules}
 use borrow.Author.Tests.{ne_eqb}
 use Rattle.index.specs.Index.{bucket_of, mark_of}
 use Rattle.index.proofs.slot_of_other.Goals as goal

@@ -2,7 +2,6 @@
 use Prim.Native.Nat.{◌*◌, ◌%◌, ◌^◌, ◌<◌}
 use mathlib.Core.Path.{◌≡◌}
 use native.Mathlib.Omega.{arith}
-use borrow.Author.Rules.{rules}
 use lib.Pow.{pow-lt}
 use Rattle.index.specs.Index.{tags, bucket_of, mark_of}
 use Rattle.index.proofs.slot_of_rule.Goals as goal

@@ -1,6 +1,5 @@
 -- The definition's own sum and remainder.
 use native.Mathlib.Omega.{arith}
-use borrow.Author.Rules.{rules}
 use Rattle.index.specs.Index.{spread}
 use Rattle.index.proofs.spread.Goals as goal
 

@@ -1,6 +1,5 @@
 -- The test computes to `has_room`.
 use mathlib.Core.Path.{refl}
-use borrow.Author.Rules.{rules}
 use Rattle.print.specs.Print.{has_room}
 use Rattle.print.proofs.has_room.Goals as goal
 

@@ -1,8 +1,6 @@
 -- With room the run's text is written, and the laws of `Text.antt` join it to what is returned; without room nothing is done.
 use native.Mathlib.Omega.{arith}
 use mathlib.Core.Path.{sym, ap, ◌∙◌}
-use borrow.Author.Rules.{rules}
-use borrow.Author.Tests.{not-true, not-false}
 use Rattle.model.specs.Calls.{RunResult}
 use Rattle.print.specs.Print.{print_into}
 use Rattle.print.proofs.Text.{number_short, number_fits, lines_fit, answers_printed, number_printed}

@@ -1,6 +1,5 @@
 -- The run starts from the state that the fresh call left: `run_into`, by the equations of the two calls.
 use mathlib.Core.Path.{◌∙◌, ap}
-use borrow.Author.Rules.{rules}
 use Rattle.model.specs.Calls.{FreshResult, run_journal}
 use Rattle.print.specs.Print.{run_into}
 use Rattle.print.proofs.run_into.Goals as goal

@@ -2,7 +2,6 @@
 -- Both days are days of the week.
 use native.Mathlib.Omega.{arith}
 use mathlib.Core.Path.{refl, ◌∙◌, ap, ap₂}
-use borrow.Author.Rules.{rules}
 use Rattle.model.specs.Words.{bit}
 use Rattle.model.specs.Checks.{weekday_before, fits_past_midnight}
 use Rattle.rules.proofs.fits_past_midnight.Goals as goal

@@ -1,5 +1,4 @@
 -- The fields are read, and the code tests them as the definition does.
-use borrow.Author.Rules.{rules}
 use Rattle.model.specs.Checks.{fits_within_day}
 use Rattle.rules.proofs.fits_within_day.Goals as goal
 

@@ -1,6 +1,5 @@
 -- A record of another kind or number is no rule of the rights; of any other, the rights numbers and the flag decide.
 use mathlib.Core.Path.{sym}
-use borrow.Author.Rules.{rules}
 use borrow.Author.Tests.{eq-eqb, ne_eqb}
 use Rattle.model.specs.Site.{instance}
 use Rattle.model.specs.Checks.{enabled_rule}

@@ -1,6 +1,5 @@
 -- Everywhere; at the point; else at the Zone_To, which is a zone.
 use mathlib.Core.Bool.{or-false}
-use borrow.Author.Rules.{rules}
 use borrow.Author.Tests.{ne_eqb}
 use Rattle.model.specs.Site.{location}
 use Rattle.model.specs.Checks.{location_fits}

@@ -1,6 +1,5 @@
 -- The definition's own quotient and remainder.
 use mathlib.Core.Path.{refl}
-use borrow.Author.Rules.{rules}
 use Rattle.model.specs.Checks.{minute_of_day}
 use Rattle.rules.proofs.minute_of_day.Goals as goal
 

@@ -1,9 +1,8 @@
-use Prim.Native.Nat.{◌<◌, ◌-◌}
-use mathlib.Core.Path.{◌≡◌, ap, ◌∙◌, sym}
+use Prim.Native.Nat.{◌<◌}
+use mathlib.Core.Path.{ap, ◌∙◌, sym}
 use mathlib.Core.List.{[], ◌∷◌}
 use native.Mathlib.Omega.{arith}
-use borrow.Author.Rules.{rules}
-use lib.ListN.{length, drop}
+use lib.ListN.{length}
 use Rattle.model.specs.Site.{records}
 use Rattle.rules.specs.Walk.{findings, both}
 use Rattle.rules.proofs.Chains.{scan_start, scan_turn, scan_end}

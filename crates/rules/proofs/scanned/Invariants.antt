@@ -1,13 +1,9 @@
 -- Record by record: what is found so far, with what the records left find, stays the same.
-use Prim.Native.Nat.{◌<◌, ◌-◌}
-use mathlib.Core.Path.{◌≡◌, ap, ◌∙◌, sym}
-use mathlib.Core.List.{[], ◌∷◌}
-use native.Mathlib.Omega.{arith}
-use borrow.Author.Rules.{rules}
+use Prim.Native.Nat.{◌-◌}
+use mathlib.Core.Path.{◌≡◌}
 use lib.ListN.{length, drop}
 use Rattle.model.specs.Site.{records}
 use Rattle.rules.specs.Walk.{findings, both}
-use Rattle.rules.proofs.Chains.{scan_start, scan_turn, scan_end}
 use Rattle.rules.proofs.scanned.Given as goal
 
 abbrev pub invariant-loop-i : goal.invariant-loop-i

@@ -1,14 +1,13 @@
-use Prim.Native.Nat.{◌<◌, ◌-◌}
-use mathlib.Core.Path.{◌≡◌, ap}
+use Prim.Native.Nat.{◌<◌}
+use mathlib.Core.Path.{ap}
 use native.Mathlib.Omega.{arith}
-use borrow.Author.Rules.{rules}
 use borrow.Author.Tests.{not-false}
 use lib.ListN.{length, take}
 use lib.Seq.{length-take-le, get_or-take}
 use Rattle.model.specs.Site.{records}
 use Rattle.rules.specs.Walk.{both}
 use Rattle.rules.proofs.Places.{found_all}
-use Rattle.rules.proofs.Rounds.{Round, class_at, round_turn, round_end}
+use Rattle.rules.proofs.Rounds.{class_at, round_turn, round_end}
 use Rattle.rules.proofs.verdict_of.Goals as goal
 
 pub loop-k-init : goal.loop-k-init

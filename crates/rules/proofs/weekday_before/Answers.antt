@@ -1,6 +1,5 @@
 -- By whether the day is Monday, as the definition.
 use native.Mathlib.Omega.{arith}
-use borrow.Author.Rules.{rules}
 use borrow.Author.Tests.{eq-eqb, ne_eqb}
 use Rattle.model.specs.Checks.{weekday_before}
 use Rattle.rules.proofs.weekday_before.Goals as goal

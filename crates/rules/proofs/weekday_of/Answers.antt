@@ -1,6 +1,5 @@
 -- The definition's own quotient and remainder.
 use mathlib.Core.Path.{refl}
-use borrow.Author.Rules.{rules}
 use native.Mathlib.Omega.{arith}
 use Rattle.model.specs.Checks.{weekday}
 use Rattle.rules.proofs.weekday_of.Goals as goal

@@ -1,14 +1,13 @@
-use Prim.Native.Nat.{◌≤◌, ◌<◌, ◌-◌}
+use Prim.Native.Nat.{◌<◌}
 use mathlib.Core.Path.{sym, ap, ◌∙◌}
 use mathlib.Core.List.{[], ◌∷◌}
 use mathlib.Core.Bool.{false≢true}
 use native.Mathlib.Omega.{arith}
-use borrow.Author.Rules.{rules}
 use lib.ListN.{length, get_or}
 use Rattle.model.specs.Site.{records}
 use Rattle.index.specs.Index.{record_of}
 use Rattle.rules.specs.Walk.{findings, both}
-use Rattle.rules.proofs.Chains.{ClassWalk, walk_start, walk_turn, walk_goes_on, walk_end}
+use Rattle.rules.proofs.Chains.{walk_start, walk_turn, walk_goes_on, walk_end}
 use Rattle.rules.proofs.with_class.Goals as goal
 
 pub head_of-chain-requires : goal.head_of-chain-requires

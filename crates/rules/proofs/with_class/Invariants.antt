@@ -1,15 +1,7 @@
 -- A walk along the chain of the class's bucket, as long as a rule of the class may be left. Of a chain that is left nothing is said.
-use Prim.Native.Nat.{◌≤◌, ◌<◌, ◌-◌}
-use mathlib.Core.Path.{sym, ap, ◌∙◌}
-use mathlib.Core.List.{[], ◌∷◌}
-use mathlib.Core.Bool.{false≢true}
-use native.Mathlib.Omega.{arith}
-use borrow.Author.Rules.{rules}
-use lib.ListN.{length, get_or}
+use Prim.Native.Nat.{◌≤◌, ◌-◌}
 use Rattle.model.specs.Site.{records}
-use Rattle.index.specs.Index.{record_of}
-use Rattle.rules.specs.Walk.{findings, both}
-use Rattle.rules.proofs.Chains.{ClassWalk, walk_start, walk_turn, walk_goes_on, walk_end}
+use Rattle.rules.proofs.Chains.{ClassWalk}
 use Rattle.rules.proofs.with_class.Given as goal
 
 abbrev pub invariant-loop-a : goal.invariant-loop-a

@@ -1,5 +1,4 @@
 -- Where a rule of its sign fits already the hours add nothing; else they decide.
-use borrow.Author.Rules.{rules}
 use Rattle.model.specs.Checks.{time_fits}
 use Rattle.rules.specs.Walk.{both}
 use Rattle.rules.proofs.Laws.{fits_already}

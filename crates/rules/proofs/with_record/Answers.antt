@@ -1,8 +1,6 @@
 -- A record that is no enabled rule of the rights, or holds elsewhere, adds nothing; any other adds what it finds.
 use mathlib.Core.Path.{◌≡◌, sym, ◌∙◌}
 use mathlib.Core.Bool.{true}
-use borrow.Author.Rules.{rules}
-use borrow.Author.Tests.{not-true, not-false}
 use Rattle.model.specs.Checks.{enabled_rule, location_fits}
 use Rattle.rules.proofs.Laws.{no_rule, elsewhere, finds}
 use Rattle.rules.proofs.with_record.Goals as goal

@@ -2,7 +2,6 @@
 use Prim.Native.Nat.{ℕ, ◌+◌}
 use mathlib.Core.Path.{◌≡◌}
 use native.Mathlib.Numerals.{add-one}
-use borrow.Author.Rules.{rules}
 use lib.Dec.{leb, ltb, leb-suc-suc}
 use Rattle.conditions.proofs.words.has_reached.Goals as goal
 

@@ -1,5 +1,4 @@
 -- A sum above the largest count is refused; any other has four bytes.
-use borrow.Author.Rules.{rules}
 use borrow.Author.Tests.{le-ltb, lt-ltb}
 use Rattle.model.specs.Step.{adjust_outcome}
 use Rattle.effects.proofs.operations.adjust_outcome.Goals as goal

@@ -1,5 +1,4 @@
 -- An amount from 2,147,483,648 on is taken off, down to 0; a smaller one is added.
-use borrow.Author.Rules.{rules}
 use borrow.Author.Tests.{le-leb, lt-leb}
 use native.Mathlib.Omega.{arith}
 use Rattle.model.specs.Step.{adjusted, is_negative}

@@ -1,6 +1,5 @@
 -- Where the count gains it is not the largest.
 use native.Mathlib.Omega.{arith}
-use borrow.Author.Rules.{rules}
 use Rattle.effects.proofs.outcome.gained.Goals as goal
 
 pub overflow_add-result : goal.overflow_add-result

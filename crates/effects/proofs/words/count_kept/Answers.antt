@@ -1,5 +1,4 @@
 -- Below the most the count has one byte.
-use borrow.Author.Rules.{rules}
 use borrow.Author.Tests.{le-leb, lt-leb}
 use Rattle.effects.proofs.words.count_kept.Goals as goal
 

@@ -1,5 +1,4 @@
 -- The sum has room in eight bytes.
-use borrow.Author.Rules.{rules}
 use Rattle.model.specs.Effects.{next_tag}
 use Rattle.effects.proofs.words.next_tag.Goals as goal
 

@@ -1,6 +1,5 @@
 -- Under each operation the tests are those of its form.
 use mathlib.Core.Path.{◌≡◌}
-use borrow.Author.Rules.{rules}
 use Rattle.model.specs.declared.Operation.TheVariants.{Factor, SetCount, AdjustCount, SetDisable, SetService}
 use Rattle.entries.proofs.form.arguments_fit.Goals as goal
 

@@ -1,6 +1,5 @@
 -- The four writes, one after the other.
 use Rattle.journal.specs.Places.{applied}
-use borrow.Author.Rules.{rules}
 use Rattle.journal.proofs.apply.apply_outcome.Goals as goal
 
 pub returns : goal.returns

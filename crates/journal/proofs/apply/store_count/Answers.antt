@@ -1,7 +1,6 @@
 -- The record is written to its part of the state; the other bytes stay.
 use Rattle.model.specs.State.{zone_bytes}
 use Rattle.octets.proofs.Groups.{part_back}
-use borrow.Author.Rules.{rules}
 use Rattle.journal.proofs.apply.store_count.Goals as goal
 
 pub returns : goal.returns

@@ -1,10 +1,6 @@
 -- By the tests of the place, which are the definition's.
 use mathlib.Core.Path.{◌≡◌}
-use mathlib.Core.Bool.{not, ◌&&◌}
-use lib.Dec.{eqb}
-use borrow.Author.Rules.{rules}
-use borrow.Author.Tests.{lt-ltb, le-ltb, not-true, not-false}
-use Rattle.model.specs.Numbers.{NONE}
+use borrow.Author.Tests.{lt-ltb, le-ltb}
 use Rattle.site.specs.declared.Place.TheVariants.{At, Nothing}
 use Rattle.journal.specs.Places.{write_place}
 use Rattle.journal.proofs.apply.write_place.Goals as goal

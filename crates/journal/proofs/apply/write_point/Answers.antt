@@ -1,6 +1,5 @@
 -- The record is stored at the place found for it, or nothing is written.
 use mathlib.Core.Path.{◌≡◌, sym, ◌∙◌}
-use borrow.Author.Rules.{rules}
 use Rattle.site.specs.declared.Place.TheVariants.{At, Nothing}
 use Rattle.journal.specs.Places.{written}
 use Rattle.journal.proofs.At.{place_below_law}

@@ -1,6 +1,5 @@
 -- The two moves of the order of checks come to the event, and the effects follow from it.
 use mathlib.Core.Path.{◌≡◌, ap, ◌∙◌}
-use borrow.Author.Rules.{rules}
 use Rattle.checks.proofs.Moves.{event_moves}
 use Rattle.checks.proofs.Room.{event_room}
 use Rattle.checks.specs.Moves.{event_after}

@@ -1,7 +1,5 @@
 -- Where the rules are not asked they change no event.
 use mathlib.Core.Path.{sym, ap, ◌∙◌}
-use borrow.Author.Rules.{rules}
-use borrow.Author.Tests.{not-true}
 use Rattle.checks.proofs.Moves.{rules_unasked}
 use Rattle.checks.specs.Moves.{asks_rules}
 use Rattle.model.specs.Checks.{event_of}

@@ -1,6 +1,5 @@
 -- By whether a credential is waited for, and whether a factor was found.
 use mathlib.Core.Path.{sym, ap, ◌∙◌}
-use borrow.Author.Rules.{rules}
 use borrow.Author.Tests.{eq-eqb, ne_eqb, not-true, not-false}
 use Rattle.model.specs.Checks.{credential_read}
 use Rattle.model.specs.Site.{credential_id}

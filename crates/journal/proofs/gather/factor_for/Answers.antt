@@ -1,6 +1,5 @@
 -- An identifying factor where nobody is waited for, else a confirming one.
 use mathlib.Core.Path.{◌∙◌}
-use borrow.Author.Rules.{rules}
 use lib.Dec.{eqb}
 use Rattle.journal.proofs.Lookups.{find_either}
 use Rattle.model.specs.Checks.{factor_for, identifying, confirming}

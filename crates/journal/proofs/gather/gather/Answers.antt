@@ -1,5 +1,4 @@
 -- Each record is read at the place where it was found.
-use borrow.Author.Rules.{rules}
 use Rattle.journal.proofs.Situations.{gathered_from}
 use Rattle.journal.proofs.gather.gather.Goals as goal
 

@@ -1,5 +1,4 @@
 -- NONE names nothing.
-use borrow.Author.Rules.{rules}
 use borrow.Author.Tests.{eq-eqb, ne_eqb}
 use Rattle.journal.specs.Places.{seek_place}
 use Rattle.journal.proofs.gather.seek_zone.Goals as goal

@@ -1,5 +1,4 @@
 -- The Zone_To of the point that is read there.
-use borrow.Author.Rules.{rules}
 use Rattle.journal.specs.Gather.{to_at}
 use Rattle.journal.proofs.gather.zone_to_at.Goals as goal
 

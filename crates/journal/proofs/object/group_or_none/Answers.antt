@@ -1,7 +1,6 @@
 -- Past the last group there is none.
 use native.Mathlib.Omega.{arith}
 use mathlib.Core.Path.{sym}
-use borrow.Author.Rules.{rules}
 use Rattle.journal.proofs.Lookups.{group_past}
 use Rattle.journal.proofs.object.group_or_none.Goals as goal
 

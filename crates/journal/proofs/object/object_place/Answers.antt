@@ -1,6 +1,5 @@
 -- Each operation has an object of its own kind.
 use mathlib.Core.Path.{◌≡◌}
-use borrow.Author.Rules.{rules}
 use Rattle.model.specs.declared.Operation.TheVariants.{Factor, SetCount, AdjustCount, SetDisable, SetService}
 use Rattle.journal.proofs.object.object_place.Goals as goal
 

@@ -1,6 +1,5 @@
 -- By whether there is a place.
 use mathlib.Core.Path.{◌≡◌}
-use borrow.Author.Rules.{rules}
 use Rattle.site.specs.declared.Place.TheVariants.{At, Nothing}
 use Rattle.journal.proofs.object.part_at.Goals as goal
 

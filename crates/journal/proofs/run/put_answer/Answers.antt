@@ -1,7 +1,6 @@
 -- The answer is written to its part of the answers; the other bytes stay.
 use Rattle.model.specs.Entry.{answer_bytes}
 use Rattle.octets.proofs.Groups.{part_back}
-use borrow.Author.Rules.{rules}
 use Rattle.journal.proofs.run.put_answer.Goals as goal
 
 pub returns : goal.returns

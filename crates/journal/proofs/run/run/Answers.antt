@@ -1,4 +1,4 @@
-use Prim.Native.Nat.{◌-◌, ◌*◌, ◌/◌, ◌≤◌, ◌<◌}
+use Prim.Native.Nat.{◌*◌, ◌/◌, ◌≤◌, ◌<◌}
 use native.Mathlib.Omega.{arith}
 use native.Mathlib.Numerals.{add-one}
 use mathlib.Core.Path.{◌≡◌, refl, sym, ◌∙◌}
@@ -7,7 +7,7 @@ use borrow.Author.Rules.{rules}
 use lib.ListN.{length}
 use Rattle.model.specs.State.{panel}
 use Rattle.model.specs.Entry.{entry_of, entries}
-use Rattle.journal.proofs.Loop.{Done, done_start, done_step, done_end, entry_at, length_journal}
+use Rattle.journal.proofs.Loop.{done_start, done_step, done_end, entry_at, length_journal}
 use Rattle.journal.proofs.run.run.Goals as goal
 
 pub loop-k-init : goal.loop-k-init

@@ -1,14 +1,11 @@
 -- By induction on the entries: after k of them state and answers are those of the first k.
-use Prim.Native.Nat.{◌-◌, ◌*◌, ◌/◌, ◌≤◌, ◌<◌}
-use native.Mathlib.Omega.{arith}
-use native.Mathlib.Numerals.{add-one}
-use mathlib.Core.Path.{◌≡◌, refl, sym, ◌∙◌}
-use mathlib.Core.List.{[], map}
-use borrow.Author.Rules.{rules}
+use Prim.Native.Nat.{◌-◌, ◌*◌, ◌/◌, ◌≤◌}
+use mathlib.Core.Path.{◌≡◌}
+use mathlib.Core.List.{map}
 use lib.ListN.{length}
 use Rattle.model.specs.State.{panel}
 use Rattle.model.specs.Entry.{entry_of, entries}
-use Rattle.journal.proofs.Loop.{Done, done_start, done_step, done_end, entry_at, length_journal}
+use Rattle.journal.proofs.Loop.{Done}
 use Rattle.journal.proofs.run.run.Given as goal
 
 abbrev pub invariant-loop-k : goal.invariant-loop-k

@@ -1,5 +1,4 @@
 -- The count that stands where the zone does.
-use borrow.Author.Rules.{rules}
 use Rattle.journal.specs.Gather.{count_to}
 use Rattle.journal.proofs.step.count_to_at.Goals as goal
 

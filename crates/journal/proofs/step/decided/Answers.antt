@@ -1,7 +1,5 @@
 -- By the form of the entry, and by whether its object is there.
 use mathlib.Core.Path.{◌≡◌}
-use borrow.Author.Rules.{rules}
-use borrow.Author.Tests.{not-true, not-false}
 use Rattle.journal.specs.Decide.{decided_as, decided_on}
 use Rattle.site.specs.declared.Place.TheVariants.{At, Nothing}
 use Rattle.journal.proofs.step.decided.Goals as goal

@@ -1,9 +1,7 @@
 -- Out of service the tag and the count are all that is asked; in service the read is worked.
 use mathlib.Core.Path.{◌≡◌, sym, ap, ◌∙◌}
 use mathlib.Core.Bool.{true, false}
-use borrow.Author.Rules.{rules}
 use Rattle.model.specs.Site.{point_of}
-use Rattle.model.specs.declared.Point.{Point}
 use Rattle.journal.specs.Places.{part_at}
 use Rattle.journal.specs.Decide.{read_at}
 use Rattle.journal.proofs.step.read_at.Goals as goal

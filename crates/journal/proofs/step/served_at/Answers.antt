@@ -1,5 +1,4 @@
 -- What is gathered is decided.
-use borrow.Author.Rules.{rules}
 use Rattle.journal.specs.Decide.{served_at}
 use Rattle.journal.proofs.step.served_at.Goals as goal
 

@@ -1,5 +1,4 @@
 -- The point, and the count of its Zone_To.
-use borrow.Author.Rules.{rules}
 use Rattle.journal.proofs.step.service_at.Goals as goal
 
 pub returns : goal.returns

@@ -1,6 +1,5 @@
 -- What is decided is written.
 use mathlib.Core.Path.{ap, ◌∙◌}
-use borrow.Author.Rules.{rules}
 use Rattle.journal.proofs.Decisions.{decided_outcome, stepped}
 use Rattle.journal.specs.Places.{applied}
 use Rattle.journal.specs.declared.Decided.{Decided}

@@ -1,6 +1,5 @@
 -- Each operation at its object.
 use mathlib.Core.Path.{◌≡◌}
-use borrow.Author.Rules.{rules}
 use Rattle.model.specs.declared.Operation.TheVariants.{Factor, SetCount, AdjustCount, SetDisable, SetService, Unknown}
 use Rattle.journal.proofs.step.worked.Goals as goal
 

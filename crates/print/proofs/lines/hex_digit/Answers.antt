@@ -1,5 +1,4 @@
 -- In each arm the test of `hex_digit` is known.
-use borrow.Author.Rules.{rules}
 use borrow.Author.Tests.{lt-ltb, le-ltb}
 use Rattle.model.specs.Print.{hex_digit}
 use Rattle.print.proofs.lines.hex_digit.Goals as goal

@@ -1,13 +1,12 @@
-use Prim.Native.Nat.{ℕ, ◌*◌, ◌-◌, ◌/◌, ◌≤◌, ◌<◌}
+use Prim.Native.Nat.{ℕ, ◌*◌, ◌/◌, ◌<◌}
 use native.Mathlib.Omega.{arith}
 use mathlib.Core.Path.{◌≡◌, refl, sym}
 use mathlib.Core.List.{List, []}
-use borrow.Author.Rules.{rules}
 use lib.ListN.{length}
 use Rattle.octets.proofs.Groups.{length_groups}
 use Rattle.model.specs.Lists.{answers_in}
 use Rattle.model.specs.Print.{hex_line, answers_text}
-use Rattle.octets.proofs.Written.{written, written_start, written_step, written_end, head_length}
+use Rattle.octets.proofs.Written.{written_start, written_step, written_end, head_length}
 use Rattle.print.proofs.lines.write_answers.Goals as goal
 
 length_answers : (answers : List ℕ) → length (answers_in answers) ≡ length answers / 16

@@ -1,14 +1,10 @@
 -- The lines of the first k answers are written.
-use Prim.Native.Nat.{ℕ, ◌*◌, ◌-◌, ◌/◌, ◌≤◌, ◌<◌}
-use native.Mathlib.Omega.{arith}
-use mathlib.Core.Path.{◌≡◌, refl, sym}
-use mathlib.Core.List.{List, []}
-use borrow.Author.Rules.{rules}
+use Prim.Native.Nat.{◌-◌, ◌≤◌}
+use mathlib.Core.Path.{◌≡◌}
 use lib.ListN.{length}
-use Rattle.octets.proofs.Groups.{length_groups}
 use Rattle.model.specs.Lists.{answers_in}
-use Rattle.model.specs.Print.{hex_line, answers_text}
-use Rattle.octets.proofs.Written.{written, written_start, written_step, written_end, head_length}
+use Rattle.model.specs.Print.{hex_line}
+use Rattle.octets.proofs.Written.{written}
 use Rattle.print.proofs.lines.write_answers.Given as goal
 
 abbrev pub invariant-loop-k : goal.invariant-loop-k

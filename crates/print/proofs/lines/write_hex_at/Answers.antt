@@ -1,5 +1,4 @@
 -- The part that is lent comes back as the digits of the byte.
-use borrow.Author.Rules.{rules}
 use Rattle.model.specs.Print.{hex_byte}
 use Rattle.octets.proofs.Groups.{part_back}
 use Rattle.print.proofs.lines.write_hex_at.Goals as goal

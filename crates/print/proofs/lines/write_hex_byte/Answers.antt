@@ -2,7 +2,6 @@
 use native.Mathlib.Omega.{arith}
 use mathlib.Core.Path.{◌∙◌}
 use mathlib.Core.List.{[], ◌∷◌}
-use borrow.Author.Rules.{rules}
 use lib.ListN.{drop_of_length-le}
 use lib.Seq.{sets-eq}
 use Rattle.model.specs.Print.{hex_byte}

@@ -1,11 +1,10 @@
-use Prim.Native.Nat.{◌-◌, ◌≤◌, ◌<◌}
+use Prim.Native.Nat.{◌<◌}
 use native.Mathlib.Omega.{arith}
-use mathlib.Core.Path.{◌≡◌, refl}
+use mathlib.Core.Path.{refl}
 use mathlib.Core.List.{map, flatten}
-use borrow.Author.Rules.{rules}
 use lib.ListN.{length}
 use Rattle.model.specs.Print.{line_feed, hex_byte, hex_line}
-use Rattle.octets.proofs.Written.{written, written_start, written_step, written_end}
+use Rattle.octets.proofs.Written.{written_start, written_step, written_end}
 use Rattle.print.proofs.LineEnd.{line_end}
 use Rattle.print.proofs.lines.write_hex_line.Goals as goal
 

@@ -1,13 +1,9 @@
 -- The digits of the first i bytes are written.
-use Prim.Native.Nat.{◌-◌, ◌≤◌, ◌<◌}
-use native.Mathlib.Omega.{arith}
-use mathlib.Core.Path.{◌≡◌, refl}
-use mathlib.Core.List.{map, flatten}
-use borrow.Author.Rules.{rules}
+use Prim.Native.Nat.{◌-◌, ◌≤◌}
+use mathlib.Core.Path.{◌≡◌}
 use lib.ListN.{length}
-use Rattle.model.specs.Print.{line_feed, hex_byte, hex_line}
-use Rattle.octets.proofs.Written.{written, written_start, written_step, written_end}
-use Rattle.print.proofs.LineEnd.{line_end}
+use Rattle.model.specs.Print.{hex_byte}
+use Rattle.octets.proofs.Written.{written}
 use Rattle.print.proofs.lines.write_hex_line.Given as goal
 
 abbrev pub invariant-loop-i : goal.invariant-loop-i

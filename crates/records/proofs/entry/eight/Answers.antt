@@ -1,5 +1,4 @@
 -- Eight bytes, one by one, are the part from the offset on.
-use borrow.Author.Rules.{rules}
 use native.Mathlib.Numerals.{towards_suc}
 use Rattle.octets.proofs.Laws.{elems, window}
 use Rattle.records.proofs.entry.eight.Goals as goal

@@ -1,5 +1,4 @@
 -- Each field is read from its place.
-use borrow.Author.Rules.{rules}
 use Rattle.model.specs.Entry.{entry_of}
 use Rattle.records.proofs.entry.entry_of.Goals as goal
 

@@ -1,5 +1,4 @@
 -- The fields fill the 16 bytes.
-use borrow.Author.Rules.{rules}
 use Rattle.octets.specs.Octets.{put, digits}
 use Rattle.octets.proofs.Laws.{elems}
 use Rattle.model.specs.Entry.{answer_bytes}

@@ -1,5 +1,4 @@
 -- A bit of the byte that is read.
-use borrow.Author.Rules.{rules}
 use Rattle.records.proofs.fields.flag_of.Goals as goal
 
 pub returns : goal.returns

@@ -1,5 +1,4 @@
 -- A part that is shorter than a record reads as 0.
-use borrow.Author.Rules.{rules}
 use Rattle.records.proofs.Laws.{short_field}
 use Rattle.records.proofs.fields.long_at.Goals as goal
 

@@ -1,6 +1,5 @@
 -- A part that is shorter than a record names nothing; a record names what its field says.
 use mathlib.Core.Path.{◌∙◌}
-use borrow.Author.Rules.{rules}
 use Rattle.records.proofs.Laws.{short_reference, reference_found}
 use Rattle.records.proofs.fields.reference_at.Goals as goal
 

@@ -1,5 +1,4 @@
 -- The number at the location's offset: by name, so that another offset is refused beside it.
-use borrow.Author.Rules.{rules}
 use Rattle.records.proofs.site.location_of.Goals as goal
 
 pub returns : goal.returns

@@ -1,5 +1,4 @@
 -- Each field is read from its place.
-use borrow.Author.Rules.{rules}
 use Rattle.model.specs.Site.{point_of}
 use Rattle.records.proofs.site.point_of.Goals as goal
 

@@ -1,6 +1,4 @@
 -- The kind is one of the five numbers, each of which has its name, or none of them.
-use borrow.Author.Rules.{rules}
-use borrow.Author.Tests.{ne_eqb}
 use Rattle.records.proofs.site.record_kind_of.Goals as goal
 
 pub returns-in-1 : goal.returns-in-1

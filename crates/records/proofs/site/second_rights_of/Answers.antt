@@ -1,5 +1,4 @@
 -- A field of the credential.
-use borrow.Author.Rules.{rules}
 use Rattle.model.specs.Site.{credential_of}
 use Rattle.records.proofs.site.second_rights_of.Goals as goal
 

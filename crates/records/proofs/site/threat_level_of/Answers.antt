@@ -1,5 +1,4 @@
 -- A field of the point.
-use borrow.Author.Rules.{rules}
 use Rattle.model.specs.Site.{point_of}
 use Rattle.records.proofs.site.threat_level_of.Goals as goal
 

@@ -1,5 +1,4 @@
 -- Each field is read from its place.
-use borrow.Author.Rules.{rules}
 use Rattle.model.specs.State.{credential_state_of}
 use Rattle.records.proofs.state.credential_state_of.Goals as goal
 

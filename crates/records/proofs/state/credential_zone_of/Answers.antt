@@ -1,5 +1,4 @@
 -- Read from its place.
-use borrow.Author.Rules.{rules}
 use Rattle.model.specs.State.{credential_state_of}
 use Rattle.records.proofs.state.credential_zone_of.Goals as goal
 

@@ -1,5 +1,4 @@
 -- A field of the point's state.
-use borrow.Author.Rules.{rules}
 use Rattle.model.specs.State.{point_state_of}
 use Rattle.records.proofs.state.tag_of.Goals as goal
 

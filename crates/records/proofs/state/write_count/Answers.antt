@@ -1,5 +1,4 @@
 -- The count in its place among the zeros.
-use borrow.Author.Rules.{rules}
 use Rattle.octets.specs.Octets.{put, digits}
 use Rattle.model.specs.State.{zone_bytes}
 use Rattle.records.proofs.state.write_count.Goals as goal

@@ -1,5 +1,4 @@
 -- Each field in its place among the zeros.
-use borrow.Author.Rules.{rules}
 use mathlib.Core.Path.{◌≡◌, refl}
 use Rattle.octets.specs.Octets.{put, digits}
 use Rattle.model.specs.Words.{zeros}

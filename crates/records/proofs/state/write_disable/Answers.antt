@@ -1,5 +1,4 @@
 -- Disable, then wrong tries.
-use borrow.Author.Rules.{rules}
 use Rattle.records.proofs.state.write_disable.Goals as goal
 
 pub returns : goal.returns

@@ -1,5 +1,4 @@
 -- Each field in its place among the zeros.
-use borrow.Author.Rules.{rules}
 use Rattle.octets.specs.Octets.{put, digits}
 use Rattle.model.specs.State.{point_bytes}
 use Rattle.records.proofs.state.write_point.Goals as goal

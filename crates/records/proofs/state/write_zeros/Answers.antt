@@ -1,10 +1,8 @@
-use Prim.Native.Nat.{◌-◌, ◌≤◌, ◌<◌}
+use Prim.Native.Nat.{◌<◌}
 use mathlib.Core.Path.{◌≡◌, refl, sym, ◌∙◌}
 use native.Mathlib.Omega.{arith}
-use borrow.Author.Rules.{rules}
-use lib.ListN.{length, take, length-set}
+use lib.ListN.{length, length-set}
 use lib.Seq.{take_all}
-use Rattle.model.specs.Words.{zeros}
 use Rattle.records.proofs.Laws.{zeros_step}
 use Rattle.records.proofs.state.write_zeros.Goals as goal
 

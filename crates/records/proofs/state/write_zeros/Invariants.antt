@@ -1,12 +1,8 @@
 -- The first i bytes are zero.
-use Prim.Native.Nat.{◌-◌, ◌≤◌, ◌<◌}
-use mathlib.Core.Path.{◌≡◌, refl, sym, ◌∙◌}
-use native.Mathlib.Omega.{arith}
-use borrow.Author.Rules.{rules}
-use lib.ListN.{length, take, length-set}
-use lib.Seq.{take_all}
+use Prim.Native.Nat.{◌-◌, ◌≤◌}
+use mathlib.Core.Path.{◌≡◌}
+use lib.ListN.{length, take}
 use Rattle.model.specs.Words.{zeros}
-use Rattle.records.proofs.Laws.{zeros_step}
 use Rattle.records.proofs.state.write_zeros.Given as goal
 
 abbrev pub invariant-loop-i : goal.invariant-loop-i

@@ -2,7 +2,6 @@
 use Prim.Native.Nat.{◌%◌, ◌≤◌}
 use mathlib.Core.Bool.{not, false≢true}
 use native.Mathlib.Omega.{arith}
-use borrow.Author.Rules.{rules}
 use borrow.Author.Tests.{ltb-false}
 use lib.Dec.{ltb, eqb}
 use lib.ListN.{length}

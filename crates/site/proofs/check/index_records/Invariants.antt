@@ -1,19 +1,12 @@
 -- From the last record to the first: those from i on are in range and indexed, and whether the same is there twice is known.
-use Prim.Native.Nat.{◌+◌, ◌-◌, ◌≤◌, ◌<◌}
+use Prim.Native.Nat.{◌≤◌}
 use mathlib.Core.Path.{◌≡◌}
-use mathlib.Core.Bool.{true, false, false≢true}
-use native.Mathlib.Omega.{arith}
-use borrow.Author.Rules.{rules}
-use borrow.Author.Tests.{not-true, not-false}
+use mathlib.Core.Bool.{true}
 use lib.ListN.{length, drop}
 use Rattle.model.specs.Words.{all}
 use Rattle.model.specs.Site.{records}
 use Rattle.model.specs.Accept.{in_range, twice}
-use Rattle.model.specs.Calls.{is_worked}
 use Rattle.index.specs.Index.{IndexedFrom}
-use Rattle.index.proofs.Walks.{left_turn, left_end}
-use Rattle.site.specs.Parts.{records_returned}
-use Rattle.site.proofs.Records.{all_not, twice_turn}
 use Rattle.site.proofs.check.index_records.Given as goal
 
 abbrev pub invariant-loop-i : goal.invariant-loop-i

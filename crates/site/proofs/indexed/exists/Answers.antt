@@ -1,6 +1,5 @@
 -- It has a place, or is missing.
 use mathlib.Core.Path.{sym}
-use borrow.Author.Rules.{rules}
 use Rattle.site.proofs.Places.{place_exists, place_exists_not}
 use Rattle.site.proofs.indexed.exists.Goals as goal
 

@@ -1,9 +1,6 @@
-use Prim.Native.Nat.{◌-◌}
 use native.Mathlib.Omega.{arith}
-use borrow.Author.Rules.{rules}
-use Rattle.model.specs.Site.{records, find_in}
-use Rattle.site.specs.Factor.{fits, presented_bucket}
-use Rattle.site.proofs.Searches.{find_search, Chain, chain_first, chain_within, chain_less, chain_hit, chain_pass, chain_end}
+use Rattle.site.specs.Factor.{fits}
+use Rattle.site.proofs.Searches.{find_search, chain_first, chain_within, chain_less, chain_hit, chain_pass, chain_end}
 use Rattle.site.proofs.Sought.{factor_sought}
 use Rattle.site.proofs.indexed.find_factor.Goals as goal
 

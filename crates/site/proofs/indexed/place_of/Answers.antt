@@ -1,10 +1,6 @@
-use Prim.Native.Nat.{◌-◌}
 use native.Mathlib.Omega.{arith}
-use borrow.Author.Rules.{rules}
-use Rattle.model.specs.Site.{records, is_at}
-use Rattle.index.specs.Index.{object_bucket}
-use Rattle.site.specs.Place.{place_from, place_of}
-use Rattle.site.proofs.Searches.{place_search, Chain, chain_first, chain_within, chain_less, chain_hit, chain_pass, chain_end}
+use Rattle.site.specs.Place.{place_of}
+use Rattle.site.proofs.Searches.{place_search, chain_first, chain_within, chain_less, chain_hit, chain_pass, chain_end}
 use Rattle.site.proofs.Sought.{object_sought}
 use Rattle.site.proofs.indexed.place_of.Goals as goal
 

@@ -1,12 +1,9 @@
 -- A search for an object's place, along the chain of its bucket.
 use Prim.Native.Nat.{◌-◌}
-use native.Mathlib.Omega.{arith}
-use borrow.Author.Rules.{rules}
 use Rattle.model.specs.Site.{records, is_at}
 use Rattle.index.specs.Index.{object_bucket}
 use Rattle.site.specs.Place.{place_from, place_of}
-use Rattle.site.proofs.Searches.{place_search, Chain, chain_first, chain_within, chain_less, chain_hit, chain_pass, chain_end}
-use Rattle.site.proofs.Sought.{object_sought}
+use Rattle.site.proofs.Searches.{Chain}
 use Rattle.site.proofs.indexed.place_of.Given as goal
 
 abbrev pub invariant-loop-i : goal.invariant-loop-i

@@ -1,5 +1,4 @@
 -- A factor that confirms is sought with its credential.
-use borrow.Author.Rules.{rules}
 use Rattle.site.specs.Factor.{presented_bucket}
 use Rattle.site.proofs.indexed.presented_bucket.Goals as goal
 

@@ -1,6 +1,5 @@
 -- The record at the place, or the empty part.
 use mathlib.Core.Path.{sym, ◌∙◌}
-use borrow.Author.Rules.{rules}
 use Rattle.site.proofs.Places.{place_found, place_missing}
 use Rattle.site.proofs.lookup.find.Goals as goal
 

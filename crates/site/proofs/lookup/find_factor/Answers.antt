@@ -1,11 +1,8 @@
-use Prim.Native.Nat.{◌-◌}
 use mathlib.Core.Path.{refl}
 use mathlib.Core.List.{[]}
 use native.Mathlib.Omega.{arith}
-use borrow.Author.Rules.{rules}
-use Rattle.model.specs.Site.{records, find_in}
 use Rattle.site.specs.Factor.{fits}
-use Rattle.site.proofs.Searches.{Searched, searched_hit, searched_pass, searched_end, find_search}
+use Rattle.site.proofs.Searches.{searched_hit, searched_pass, searched_end, find_search}
 use Rattle.site.proofs.lookup.find_factor.Goals as goal
 
 pub loop-i-init : goal.loop-i-init

@@ -1,7 +1,6 @@
 -- The value is all of its eight bytes.
 use Prim.Native.Nat.{◌≤◌}
 use native.Mathlib.Omega.{arith}
-use borrow.Author.Rules.{rules}
 use lib.ListN.{length}
 use lib.Seq.{take_all}
 use Rattle.site.proofs.lookup.has_value.Goals as goal

@@ -1,5 +1,4 @@
 -- The kind and the instance are those sought: each test is the definition's.
-use borrow.Author.Rules.{rules}
 use borrow.Author.Tests.{ne_eqb, eq-eqb}
 use Rattle.site.proofs.lookup.is_at.Goals as goal
 

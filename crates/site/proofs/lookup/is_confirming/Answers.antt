@@ -1,5 +1,4 @@
 -- The kind with the credential, the role and what is presented: each test is the definition's.
-use borrow.Author.Rules.{rules}
 use Rattle.model.specs.Checks.{confirming}
 use Rattle.site.proofs.lookup.is_confirming.Goals as goal
 

@@ -1,5 +1,4 @@
 -- It confirms, or it identifies.
-use borrow.Author.Rules.{rules}
 use Rattle.site.specs.Factor.{fits}
 use Rattle.site.proofs.lookup.is_fitting.Goals as goal
 

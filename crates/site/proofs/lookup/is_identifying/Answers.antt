@@ -1,5 +1,4 @@
 -- The kind, the role and what is presented: each test is the definition's.
-use borrow.Author.Rules.{rules}
 use Rattle.model.specs.Checks.{identifying}
 use Rattle.site.proofs.lookup.is_identifying.Goals as goal
 

@@ -1,5 +1,4 @@
 -- The format and the value: each test is the definition's.
-use borrow.Author.Rules.{rules}
 use Rattle.model.specs.Checks.{presents}
 use Rattle.site.proofs.lookup.is_presented.Goals as goal
 

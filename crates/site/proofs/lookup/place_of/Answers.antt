@@ -1,11 +1,8 @@
-use Prim.Native.Nat.{◌-◌}
 use mathlib.Core.Path.{refl}
 use mathlib.Core.List.{[]}
 use native.Mathlib.Omega.{arith}
-use borrow.Author.Rules.{rules}
-use Rattle.model.specs.Site.{records, is_at}
-use Rattle.site.specs.Place.{place_from, place_of}
-use Rattle.site.proofs.Searches.{Searched, searched_hit, searched_pass, searched_end, place_search}
+use Rattle.site.specs.Place.{place_of}
+use Rattle.site.proofs.Searches.{searched_hit, searched_pass, searched_end, place_search}
 use Rattle.site.proofs.lookup.place_of.Goals as goal
 
 pub loop-i-init : goal.loop-i-init

@@ -1,7 +1,6 @@
 -- The second word, and then the first.
 use Prim.Native.Nat.{◌+◌}
 use mathlib.Core.Path.{◌≡◌}
-use borrow.Author.Rules.{rules}
 use borrow.Author.Tests.{eq-eqb, ne_eqb}
 use Rattle.octets.specs.Octets.{field}
 use Rattle.site.proofs.Values.{same_words}

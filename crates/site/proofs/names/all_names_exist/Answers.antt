@@ -1,15 +1,13 @@
-use Prim.Native.Nat.{◌-◌, ◌<◌}
+use Prim.Native.Nat.{◌<◌}
 use mathlib.Core.Path.{refl, ap}
 use mathlib.Core.List.{[]}
 use mathlib.Core.Bool.{not}
 use native.Mathlib.Omega.{arith}
-use borrow.Author.Rules.{rules}
 use lib.ListN.{length}
-use Rattle.model.specs.Words.{all}
 use Rattle.model.specs.Site.{records}
 use Rattle.model.specs.Accept.{in_range, names_exist}
 use Rattle.site.proofs.Records.{all_at}
-use Rattle.site.proofs.Searches.{Searched, searched_hit, searched_pass, searched_end, all_search}
+use Rattle.site.proofs.Searches.{searched_hit, searched_pass, searched_end, all_search}
 use Rattle.site.proofs.names.all_names_exist.Goals as goal
 
 pub loop-i-init : goal.loop-i-init

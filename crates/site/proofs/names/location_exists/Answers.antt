@@ -1,5 +1,4 @@
 -- Everywhere, or the location is there: in range it is a zone, or else a point.
-use borrow.Author.Rules.{rules}
 use mathlib.Core.Path.{◌≡◌}
 use Rattle.model.specs.Numbers.{access_point}
 use Rattle.model.specs.Site.{location_kind}

@@ -2,7 +2,6 @@
 use mathlib.Core.Path.{refl, sym, ◌∙◌}
 use mathlib.Core.List.{[], ◌∷◌}
 use mathlib.Core.Bool.{true}
-use borrow.Author.Rules.{rules}
 use Rattle.model.specs.Site.{records}
 use Rattle.model.specs.Accept.{names_exist_as, names_exist}
 use Rattle.model.specs.declared.RecordKind.TheVariants.{OfZone, OfCredential, OfUnknown}

@@ -1,5 +1,4 @@
 -- Both zones of the point: each test is the definition's.
-use borrow.Author.Rules.{rules}
 use Rattle.site.proofs.names.zones_exist.Goals as goal
 
 pub returns : goal.returns

@@ -1,5 +1,4 @@
 -- A credential's fields, flags and spare bytes: each test is the definition's.
-use borrow.Author.Rules.{rules}
 use Rattle.model.specs.Accept.{credential_in_range}
 use Rattle.site.proofs.range.credential_in_range.Goals as goal
 

@@ -1,5 +1,4 @@
 -- A factor's fields and spare bytes: each test is the definition's.
-use borrow.Author.Rules.{rules}
 use Rattle.model.specs.Accept.{factor_in_range}
 use Rattle.site.proofs.range.factor_in_range.Goals as goal
 

@@ -1,5 +1,4 @@
 -- By the kind that is read, which each arm is told: its test is the definition's for that kind.
-use borrow.Author.Rules.{rules}
 use Rattle.site.proofs.range.fields_in_range.Goals as goal
 
 pub returns-in-OfZone : goal.returns-in-OfZone

@@ -1,5 +1,4 @@
 -- The instance and the fields: each test is the definition's.
-use borrow.Author.Rules.{rules}
 use borrow.Author.Tests.{lt-ltb, le-ltb}
 use Rattle.model.specs.Accept.{in_range}
 use Rattle.site.proofs.range.in_range.Goals as goal

@@ -1,9 +1,6 @@
-use Prim.Native.Nat.{◌+◌}
-use mathlib.Core.Path.{◌≡◌, refl, sym, ◌∙◌}
+use mathlib.Core.Path.{refl, sym, ◌∙◌}
 use native.Mathlib.Omega.{arith}
-use borrow.Author.Rules.{rules}
 use borrow.Author.Tests.{eq-eqb, ne_eqb}
-use Rattle.model.specs.Accept.{clear}
 use Rattle.site.proofs.Clear.{clear_cut, clear_field}
 use Rattle.site.proofs.range.is_clear.Goals as goal
 

@@ -1,11 +1,7 @@
 -- What is left decides: what is left is clear where the whole is.
 use Prim.Native.Nat.{◌+◌}
-use mathlib.Core.Path.{◌≡◌, refl, sym, ◌∙◌}
-use native.Mathlib.Omega.{arith}
-use borrow.Author.Rules.{rules}
-use borrow.Author.Tests.{eq-eqb, ne_eqb}
+use mathlib.Core.Path.{◌≡◌}
 use Rattle.model.specs.Accept.{clear}
-use Rattle.site.proofs.Clear.{clear_cut, clear_field}
 use Rattle.site.proofs.range.is_clear.Given as goal
 
 abbrev pub invariant-loop-left : goal.invariant-loop-left

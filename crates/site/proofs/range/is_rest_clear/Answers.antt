@@ -1,7 +1,6 @@
 -- Cut before the last byte, and what is before it after the first four.
 use native.Mathlib.Omega.{arith}
 use Prim.Native.Nat.{◌*◌, ◌/◌}
-use borrow.Author.Rules.{rules}
 use Rattle.site.proofs.Clear.{clear_cut}
 use Rattle.site.proofs.range.is_rest_clear.Goals as goal
 

@@ -1,7 +1,6 @@
 -- A word is clear where its number is 0, and no byte always is.
 use mathlib.Core.Path.{◌≡◌, sym}
 use native.Mathlib.Omega.{arith}
-use borrow.Author.Rules.{rules}
 use Rattle.site.proofs.Clear.{clear_none, clear_field}
 use Rattle.site.proofs.range.is_word_clear.Goals as goal
 

@@ -1,5 +1,4 @@
 -- Everywhere or not: each test is the definition's.
-use borrow.Author.Rules.{rules}
 use Rattle.site.proofs.range.location_in_range.Goals as goal
 
 pub returns-then-is_everywhere : goal.returns-then-is_everywhere

@@ -1,5 +1,4 @@
 -- A point's fields, flags and spare bytes: each test is the definition's.
-use borrow.Author.Rules.{rules}
 use Rattle.model.specs.Accept.{point_in_range}
 use Rattle.site.proofs.range.point_in_range.Goals as goal
 

@@ -1,6 +1,5 @@
 -- A rule's fields, flags and spare bytes: each test is the definition's.
 use mathlib.Core.Path.{refl}
-use borrow.Author.Rules.{rules}
 use Rattle.model.specs.Accept.{rule_in_range}
 use Rattle.site.proofs.range.rule_in_range.Goals as goal
 

@@ -1,5 +1,4 @@
 -- A zone's passback, flags and spare bytes: each test is the definition's.
-use borrow.Author.Rules.{rules}
 use Rattle.model.specs.Accept.{zone_in_range}
 use Rattle.site.proofs.range.zone_in_range.Goals as goal
 

@@ -1,7 +1,6 @@
 -- By the kind that is read, which each arm is told: the instances are compared, or the factors.
 use mathlib.Core.Path.{◌≡◌}
 use mathlib.Core.List.{[], ◌∷◌}
-use borrow.Author.Rules.{rules}
 use lib.Dec.{eqb}
 use Rattle.model.specs.Site.{instance}
 use Rattle.model.specs.Accept.{twins_as}

@@ -1,16 +1,12 @@
 -- A search for a twin, along the chain from the i-th record on. A rule has none.
 use Prim.Native.Nat.{◌+◌, ◌-◌}
-use mathlib.Core.Path.{refl, sym, ◌∙◌, ap}
 use mathlib.Core.List.{[]}
-use native.Mathlib.Omega.{arith}
-use borrow.Author.Rules.{rules}
 use lib.ListN.{get_or, drop}
 use Rattle.model.specs.Words.{any}
-use Rattle.model.specs.Site.{kind, records}
+use Rattle.model.specs.Site.{records}
 use Rattle.model.specs.Accept.{twins}
 use Rattle.index.specs.Index.{bucket_of}
-use Rattle.site.proofs.Searches.{any_search, Chain, chain_next, chain_within, chain_less, chain_hit, chain_pass, chain_end}
-use Rattle.site.proofs.Sought.{twin_sought, rule_alone}
+use Rattle.site.proofs.Searches.{Chain}
 use Rattle.site.proofs.twins.has_twin_after.Given as goal
 
 abbrev pub invariant-loop-j : goal.invariant-loop-j

@@ -1,6 +1,5 @@
 -- The role, the format, the value, and then the credential of confirming ones.
-use borrow.Author.Rules.{rules}
-use borrow.Author.Tests.{eq-eqb, ne_eqb, not-true, not-false}
+use borrow.Author.Tests.{eq-eqb, ne_eqb}
 use Rattle.model.specs.Accept.{twin_factors}
 use Rattle.site.proofs.twins.twin_factors.Goals as goal
 

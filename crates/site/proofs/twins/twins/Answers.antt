@@ -1,5 +1,4 @@
 -- Kinds that differ are no twins; of one kind, what makes twins of it decides.
-use borrow.Author.Rules.{rules}
 use borrow.Author.Tests.{eq-eqb, ne_eqb}
 use Rattle.model.specs.Accept.{twins}
 use Rattle.site.proofs.twins.twins.Goals as goal

@@ -1,6 +1,5 @@
 -- By the kind that is read, which each arm is told: its record is the definition's for that kind.
 use mathlib.Core.List.{[], ◌∷◌}
-use borrow.Author.Rules.{rules}
 use Rattle.model.specs.State.{fresh_credential, fresh_record_as, fresh_record}
 use Rattle.model.specs.declared.RecordKind.TheVariants.{OfZone, OfRule, OfFactor, OfUnknown}
 use Rattle.site.proofs.RecordKinds.{kind_among}

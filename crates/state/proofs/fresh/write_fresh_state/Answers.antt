@@ -1,11 +1,11 @@
-use Prim.Native.Nat.{◌<◌, ◌≤◌, ◌-◌, ◌*◌, ◌/◌}
-use mathlib.Core.Path.{◌≡◌, refl, ◌∙◌, ap}
+use Prim.Native.Nat.{◌<◌, ◌≤◌, ◌*◌, ◌/◌}
+use mathlib.Core.Path.{refl, ◌∙◌, ap}
 use mathlib.Core.List.{[], ◌++◌, append-nil}
 use native.Mathlib.Omega.{arith}
 use borrow.Author.Rules.{rules}
 use lib.ListN.{length, drop_of_length-le}
 use Rattle.octets.proofs.Groups.{length_groups}
-use Rattle.octets.proofs.Written.{written, written_start, written_step, written_end}
+use Rattle.octets.proofs.Written.{written_start, written_step, written_end}
 use Rattle.model.specs.Site.{records}
 use Rattle.model.specs.State.{fresh_record, fresh}
 use Rattle.state.proofs.fresh.write_fresh_state.Goals as goal

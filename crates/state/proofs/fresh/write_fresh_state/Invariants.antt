@@ -1,14 +1,10 @@
 -- After i records their fresh records stand at the head of the state.
-use Prim.Native.Nat.{◌<◌, ◌≤◌, ◌-◌, ◌*◌, ◌/◌}
-use mathlib.Core.Path.{◌≡◌, refl, ◌∙◌, ap}
-use mathlib.Core.List.{[], ◌++◌, append-nil}
-use native.Mathlib.Omega.{arith}
-use borrow.Author.Rules.{rules}
-use lib.ListN.{length, drop_of_length-le}
-use Rattle.octets.proofs.Groups.{length_groups}
-use Rattle.octets.proofs.Written.{written, written_start, written_step, written_end}
+use Prim.Native.Nat.{◌≤◌, ◌-◌, ◌/◌}
+use mathlib.Core.Path.{◌≡◌}
+use lib.ListN.{length}
+use Rattle.octets.proofs.Written.{written}
 use Rattle.model.specs.Site.{records}
-use Rattle.model.specs.State.{fresh_record, fresh}
+use Rattle.model.specs.State.{fresh_record}
 use Rattle.state.proofs.fresh.write_fresh_state.Given as goal
 
 abbrev pub invariant-loop-i : goal.invariant-loop-i

@@ -1,5 +1,4 @@
 -- The fields of a credential's state record: each test is the definition's.
-use borrow.Author.Rules.{rules}
 use Rattle.model.specs.State.{credential_well}
 use Rattle.state.proofs.well.credential_well.Goals as goal
 

@@ -1,13 +1,10 @@
-use Prim.Native.Nat.{◌-◌}
 use mathlib.Core.Path.{refl, sym, ap, ◌∙◌}
 use mathlib.Core.List.{[]}
 use mathlib.Core.Bool.{not}
 use native.Mathlib.Omega.{arith}
-use borrow.Author.Rules.{rules}
-use Rattle.model.specs.Words.{all}
 use Rattle.model.specs.Site.{records}
-use Rattle.model.specs.State.{panel, record_well, well_formed}
-use Rattle.site.proofs.Searches.{Searched, searched_hit, searched_pass, searched_end, all_search}
+use Rattle.model.specs.State.{record_well, well_formed}
+use Rattle.site.proofs.Searches.{searched_hit, searched_pass, searched_end, all_search}
 use Rattle.state.proofs.Pairs.{length_panel, pair_at}
 use Rattle.state.proofs.well.is_well_formed.Goals as goal
 

@@ -1,15 +1,9 @@
 -- A search for a state record that is not well formed, pair by pair.
 use Prim.Native.Nat.{◌-◌}
-use mathlib.Core.Path.{refl, sym, ap, ◌∙◌}
-use mathlib.Core.List.{[]}
-use mathlib.Core.Bool.{not}
-use native.Mathlib.Omega.{arith}
-use borrow.Author.Rules.{rules}
 use Rattle.model.specs.Words.{all}
 use Rattle.model.specs.Site.{records}
 use Rattle.model.specs.State.{panel, record_well, well_formed}
-use Rattle.site.proofs.Searches.{Searched, searched_hit, searched_pass, searched_end, all_search}
-use Rattle.state.proofs.Pairs.{length_panel, pair_at}
+use Rattle.site.proofs.Searches.{Searched}
 use Rattle.state.proofs.well.is_well_formed.Given as goal
 
 abbrev pub invariant-loop-i : goal.invariant-loop-i

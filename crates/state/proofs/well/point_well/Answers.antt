@@ -1,5 +1,4 @@
 -- The fields of a point's state record: each test is the definition's.
-use borrow.Author.Rules.{rules}
 use Rattle.model.specs.State.{point_well}
 use Rattle.state.proofs.well.point_well.Goals as goal
 

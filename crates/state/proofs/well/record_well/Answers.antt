@@ -1,6 +1,5 @@
 -- By the kind that is read, which each arm is told: its test is the definition's for that kind.
 use mathlib.Core.List.{[], ◌∷◌}
-use borrow.Author.Rules.{rules}
 use Rattle.model.specs.Site.{records}
 use Rattle.model.specs.State.{record_well_as, record_well}
 use Rattle.model.specs.declared.RecordKind.TheVariants.{OfRule, OfFactor, OfUnknown}

@@ -1,5 +1,4 @@
 -- The bytes after the count.
-use borrow.Author.Rules.{rules}
 use Rattle.model.specs.State.{zone_well}
 use Rattle.state.proofs.well.zone_well.Goals as goal
 

@@ -1,6 +1,5 @@
 -- Sixteen bits are a number below 65,536.
 use mathlib.Core.Path.{sym}
-use borrow.Author.Rules.{rules}
 use Rattle.wiegand.proofs.Fields.{card_number}
 use Rattle.wiegand.proofs.read.card_of.Goals as goal
 

@@ -1,6 +1,5 @@
 -- Eight bits are a number below 256.
 use mathlib.Core.Path.{sym}
-use borrow.Author.Rules.{rules}
 use Rattle.wiegand.proofs.Fields.{facility_number}
 use Rattle.wiegand.proofs.read.facility_of.Goals as goal
 

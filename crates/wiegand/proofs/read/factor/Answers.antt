@@ -4,7 +4,6 @@ use mathlib.Core.Path.{refl}
 use native.Mathlib.Nat.{div-one}
 use Rattle.octets.specs.Octets.{digits}
 use Rattle.wiegand.specs.Wiegand.{factor}
-use borrow.Author.Rules.{rules}
 use Rattle.wiegand.proofs.read.factor.Goals as goal
 
 pub returns : goal.returns

@@ -1,6 +1,5 @@
 -- Facility and card are one number of 24 bits, whose ones the machine counts.
 use mathlib.Core.Path.{sym}
-use borrow.Author.Rules.{rules}
 use Rattle.wiegand.proofs.Fields.{written_number}
 use Rattle.wiegand.proofs.write.write_wiegand26.Goals as goal
 
