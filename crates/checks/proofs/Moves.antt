@@ -1,9 +1,9 @@
 -- The two moves are the order of checks, and where the rules are not asked the event does not depend on what they say.
+use Rattle.std.specs.Prelude.{if◌then◌else◌}
 use Prim.Native.Nat.{ℕ}
 use mathlib.Core.Path.{◌≡◌, refl, sym, ◌∙◌}
 use mathlib.Core.Bool.{Bool, true, false, not, ◌&&◌}
 use lib.Dec.{ltb, eqb}
-use Rattle.model.specs.Words.{if◌then◌else◌}
 use Rattle.model.specs.Numbers as n
 use Rattle.model.specs.Checks.{into_zone, passback_violated, at_lower_limit, at_upper_limit, validity_of, authorization_of, authorization, passage, permission, entitlement, event_of}
 use Rattle.model.specs.declared.Situation.{Situation}

@@ -1,11 +1,11 @@
 -- Event 1 leaves room in Zone_To's count: it comes from step 12 alone, after step 11 has given 164 where a counting zone is full.
+use Rattle.std.specs.Prelude.{if◌then◌else◌}
 use Prim.Native.Nat.{ℕ}
 use native.Mathlib.Omega.{arith}
 use mathlib.Core.Path.{◌≡◌, sym, ◌∙◌}
 use mathlib.Core.Bool.{Bool, true, false, ◌&&◌}
 use lib.Dec.{eqb}
 use borrow.Author.Tests.{eqb-true, eq-eqb}
-use Rattle.model.specs.Words.{if◌then◌else◌}
 use Rattle.model.specs.Numbers as n
 use Rattle.model.specs.Checks.{validity_of, authorization_of, authorization, passage, permission, entitlement, event_of}
 use Rattle.model.specs.Effects.{counts}

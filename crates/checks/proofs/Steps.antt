@@ -1,10 +1,10 @@
 -- Steps of the order of checks end with an event of their own, whatever follows, or give none and go on to what follows. No event of
 -- theirs is NEXT and none is 1.
+use Rattle.std.specs.Prelude.{if◌then◌else◌}
 use Prim.Native.Nat.{ℕ}
 use mathlib.Core.Path.{◌≡◌, refl, ◌∙◌}
 use mathlib.Core.Bool.{Bool, true, false, ◌&&◌}
 use lib.Dec.{eqb}
-use Rattle.model.specs.Words.{if◌then◌else◌}
 use Rattle.model.specs.Numbers as n
 use Rattle.model.specs.Checks.{disabled_factor, authentication_of, authentication, validity_of, validity, authorization_of, authorization, passage, permission}
 use Rattle.model.proofs.Laws.{if_holds}

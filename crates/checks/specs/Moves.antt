@@ -1,6 +1,5 @@
 -- The order of checks in two moves: steps 1 to 5 are worked once, and the rules are walked for those reads only that come to step 9.
-use Rattle.std.specs.Prelude.{ℕ, Bool, false, not, ◌&&◌, ltb, eqb}
-use Rattle.model.specs.Words.{if◌then◌else◌}
+use Rattle.std.specs.Prelude.{ℕ, Bool, false, not, ◌&&◌, ltb, eqb, if◌then◌else◌}
 use Rattle.model.specs.Numbers as n
 use Rattle.model.specs.Checks.{authentication_of, authentication, validity_of, validity, permission}
 use Rattle.model.specs.declared.Situation.{Situation}

@@ -1,6 +1,5 @@
 // Arithmetic over numbers alone, and the choice between two values.
-ghost use Rattle.std.specs.Prelude.{◌≡◌, ◌*◌, leb};
-ghost use Rattle.model.specs.Words.{if◌then◌else◌};
+ghost use Rattle.std.specs.Prelude.{◌≡◌, ◌*◌, leb, if◌then◌else◌};
 ghost use Rattle.model.specs.Checks as m;
 ghost use Rattle.model.specs.Numbers as n;
 

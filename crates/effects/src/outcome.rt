@@ -1,6 +1,5 @@
 // The outcome of an event: counts, the answer, and the state records that are written.
-ghost use Rattle.std.specs.Prelude.{◌≡◌, true, ◌+◌};
-ghost use Rattle.model.specs.Words.{if◌then◌else◌};
+ghost use Rattle.std.specs.Prelude.{◌≡◌, true, ◌+◌, if◌then◌else◌};
 ghost use Rattle.model.specs.Numbers as n;
 ghost use Rattle.model.specs.Effects.{counts, count_after, answer_with, outcome_with, outcome_of};
 ghost use Rattle.conditions.specs.Room.{Room};

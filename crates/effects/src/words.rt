@@ -1,6 +1,5 @@
 // Sums and differences of numbers, dates, counts up to a most.
-ghost use Rattle.std.specs.Prelude.{◌≡◌, ◌&&◌, ◌||◌, leb, ◌+◌, ◌-◌};
-ghost use Rattle.model.specs.Words.{if◌then◌else◌};
+ghost use Rattle.std.specs.Prelude.{◌≡◌, ◌&&◌, ◌||◌, leb, ◌+◌, ◌-◌, if◌then◌else◌};
 ghost use Rattle.model.specs.Effects.{next_tag, date};
 
 use model::numbers::{MODULUS, SECONDS_OF_DAY};

@@ -1,4 +1,5 @@
 -- What is looked up is in the bucket in which it is sought.
+use Rattle.std.specs.Prelude.{if◌then◌else◌}
 use Prim.Native.Nat.{ℕ}
 use mathlib.Core.Path.{◌≡◌, refl, sym, ap, ◌∙◌}
 use mathlib.Core.List.{List}
@@ -8,7 +9,6 @@ use lib.Dec.{eqb}
 use borrow.Author.Tests.{eqb-true, ne_eqb}
 use Rattle.octets.specs.Octets.{field, same}
 use Rattle.octets.proofs.Laws.{field_part, same_eq, same_refl}
-use Rattle.model.specs.Words.{if◌then◌else◌}
 use Rattle.model.specs.Numbers.{access_zone, access_point, access_rule, access_credential, authentication_factor, role_identifying, role_confirming}
 use Rattle.model.specs.Site.{kind, record_kind, instance, role, format, value, is_at}
 use Rattle.model.specs.Checks.{presents, identifying, confirming}

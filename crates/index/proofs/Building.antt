@@ -1,4 +1,5 @@
 -- The index is built from the last record to the first.
+use Rattle.std.specs.Prelude.{if◌then◌else◌}
 use Prim.Native.Nat.{ℕ, ◌+◌, ◌*◌, ◌/◌, ◌≤◌, ◌<◌}
 use mathlib.Core.Path.{◌≡◌, refl, sym, ◌∙◌}
 use mathlib.Core.List.{List, []}
@@ -10,7 +11,6 @@ use lib.ListN.{length, drop, get_or, set, length-set}
 use lib.Seq.{get_or-set_same, get_or-set_other}
 use borrow.Author.Tests.{eqb-true, eqb-false, eq-eqb, ne_eqb}
 use Rattle.octets.proofs.Groups.{length_groups}
-use Rattle.model.specs.Words.{if◌then◌else◌}
 use Rattle.model.specs.Site.{records}
 use Rattle.index.specs.Index.{most_records, buckets, kind_classes, index_size, chain_scale, bucket_of, mark_of, tags_of, chain_from, kind_class, next_in, head, kind_head, kind_last, link, IndexedFrom}
 use Rattle.index.proofs.Walks.{left_turn, left_end, next_high, next_turn, next_end}

@@ -1,4 +1,5 @@
 -- The tags of a chain: where one is missing, no rule of its class is left.
+use Rattle.std.specs.Prelude.{if◌then◌else◌}
 use Prim.Native.Nat.{ℕ, zero, suc, ◌/◌, ◌%◌, ◌^◌, ◌<◌}
 use mathlib.Core.Path.{◌≡◌, refl, sym, ◌∙◌}
 use mathlib.Core.List.{List, [], ◌∷◌}
@@ -10,7 +11,7 @@ use lib.Dec.{eqb}
 use lib.ListN.{length}
 use lib.Pow.{shl-shr}
 use borrow.Author.Tests.{eqb-true, eq-eqb}
-use Rattle.model.specs.Words.{if◌then◌else◌, keep, bit}
+use Rattle.model.specs.Words.{keep, bit}
 use Rattle.model.specs.Numbers.{access_rule}
 use Rattle.model.specs.Site.{kind}
 use Rattle.model.proofs.Laws.{and_left, and_right}

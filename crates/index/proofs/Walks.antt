@@ -1,4 +1,5 @@
 -- Walks over the records of a site, one by one or along the chain of a bucket: what is left from the i-th record on decides.
+use Rattle.std.specs.Prelude.{if◌then◌else◌}
 use Prim.Native.Nat.{ℕ, zero, suc, ◌+◌, ◌-◌, ◌/◌, ◌%◌, ◌≤◌, ◌<◌}
 use mathlib.Core.Path.{◌≡◌, refl, sym, ◌∙◌}
 use mathlib.Core.List.{List, [], ◌∷◌}
@@ -10,7 +11,6 @@ use lib.Dec.{eqb, ltb}
 use lib.ListN.{length, drop, get_or, drop_of_length-le, length-drop}
 use lib.Seq.{drop-cons, drop-drop, get_or-drop}
 use borrow.Author.Tests.{eqb-true, eqb-false, ne_eqb, ltb-true, ltb-false, lt-ltb}
-use Rattle.model.specs.Words.{if◌then◌else◌}
 use Rattle.model.specs.Site.{kind}
 use Rattle.index.specs.Index.{buckets, kind_classes, bucket_of, tags_of, chain_from, chain_scale, record_of, kind_class, first_from, next_in, head, kind_head, kind_last, link, after, IndexedFrom}
 

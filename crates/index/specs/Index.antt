@@ -1,8 +1,7 @@
 -- The index of a site's records: the bucket of a record, the next record of a bucket, and what the numbers of an index are.
-use Rattle.std.specs.Prelude.{ℕ, suc, ◌+◌, ◌*◌, ◌/◌, ◌%◌, ◌^◌, ◌≤◌, ◌<◌, ◌≡◌, List, [], ◌∷◌, Bool, ◌&&◌, eqb, length, drop, get_or}
+use Rattle.std.specs.Prelude.{ℕ, suc, ◌+◌, ◌*◌, ◌/◌, ◌%◌, ◌^◌, ◌≤◌, ◌<◌, ◌≡◌, List, [], ◌∷◌, Bool, ◌&&◌, eqb, length, drop, get_or, if◌then◌else◌}
 use Rattle.std.specs.Int.Bits.{bit_or}
 use Rattle.octets.specs.Octets.{field}
-use Rattle.model.specs.Words.{if◌then◌else◌}
 use Rattle.model.specs.Numbers.{access_rule, authentication_factor, role_identifying}
 use Rattle.model.specs.Site.{kind, instance, everywhere, location_kind, location, role, format, records}
 use Rattle.index.specs.declared.Slot.{Slot}

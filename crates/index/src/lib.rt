@@ -4,9 +4,9 @@
 // in its chain, a bit each, so that a walk for rules ends where none of their tag is left. Nothing else knows where these stand.
 #![tactic(auto)]
 
-ghost use Rattle.std.specs.Prelude.{◌≡◌, [], ℕ, ◌+◌, ◌*◌, ◌/◌, ◌%◌, ◌≤◌, ◌<◌, eqb, ltb, length, get_or};
+ghost use Rattle.std.specs.Prelude.{◌≡◌, [], ℕ, ◌+◌, ◌*◌, ◌/◌, ◌%◌, ◌≤◌, ◌<◌, eqb, ltb, length, get_or, if◌then◌else◌};
 ghost use Rattle.std.specs.Int.Bits.{bit_or};
-ghost use Rattle.model.specs.Words.{if◌then◌else◌, bit};
+ghost use Rattle.model.specs.Words.{bit};
 ghost use Rattle.octets.specs.Octets.{field};
 ghost use Rattle.model.specs.Numbers.{access_rule};
 ghost use Rattle.model.specs.Site as Site;

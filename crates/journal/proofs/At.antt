@@ -1,4 +1,5 @@
 -- What is read and written at a record's place is what the panel of site and state has there.
+use Rattle.std.specs.Prelude.{if◌then◌else◌}
 use Prim.Native.Nat.{ℕ, zero, suc, ◌+◌, ◌*◌, ◌/◌, ◌%◌, ◌≤◌, ◌<◌}
 use native.Mathlib.Omega.{arith}
 use mathlib.Core.Path.{◌≡◌, refl, sym, ◌∙◌, ap}
@@ -10,7 +11,6 @@ use lib.Seq.{take_at, drop_at, take-add, drop-drop, length-take-le}
 use borrow.Author.Tests.{ltb-true, lt-ltb, not-true}
 use Rattle.octets.specs.Octets.{groups, with_part}
 use Rattle.octets.proofs.Groups.{joined_back}
-use Rattle.model.specs.Words.{if◌then◌else◌}
 use Rattle.model.specs.Numbers.{NONE}
 use Rattle.model.specs.State.{Pair, paired, panel, state_of, find, seek, store, write, zone_bytes, point_bytes, credential_bytes}
 use Rattle.model.specs.Step.{apply}

@@ -1,4 +1,5 @@
 -- What is decided of an entry on bytes is its outcome at the panel, and its places are those of the records that it names.
+use Rattle.std.specs.Prelude.{if◌then◌else◌}
 use Prim.Native.Nat.{ℕ, ◌/◌, ◌%◌, ◌<◌}
 use native.Mathlib.Omega.{arith}
 use mathlib.Core.Path.{◌≡◌, refl, sym, ◌∙◌, ap}
@@ -7,7 +8,7 @@ use mathlib.Core.Bool.{Bool, true, false, not}
 use lib.Dec.{ltb}
 use lib.ListN.{length}
 use Rattle.octets.proofs.Groups.{length_groups, length_group}
-use Rattle.model.specs.Words.{if◌then◌else◌, missing}
+use Rattle.model.specs.Words.{missing}
 use Rattle.model.specs.Numbers as n
 use Rattle.model.specs.Site.{records, point_of}
 use Rattle.model.specs.State.{panel, state_of, find, count}

@@ -1,4 +1,5 @@
 -- Parts that were found or not, and what is looked up.
+use Rattle.std.specs.Prelude.{if◌then◌else◌}
 use Prim.Native.Nat.{ℕ, ◌/◌, ◌≤◌}
 use native.Mathlib.Omega.{arith}
 use mathlib.Core.Path.{◌≡◌, refl}
@@ -8,7 +9,7 @@ use lib.Dec.{eqb}
 use lib.ListN.{length, get_or, get_or-eq_default}
 use Rattle.octets.specs.Octets.{groups}
 use Rattle.octets.proofs.Groups.{length_groups}
-use Rattle.model.specs.Words.{if◌then◌else◌, missing}
+use Rattle.model.specs.Words.{missing}
 use Rattle.model.specs.Site.{find_in}
 use Rattle.site.proofs.Records.{no_bytes}
 

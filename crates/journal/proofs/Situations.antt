@@ -1,11 +1,12 @@
 -- What is gathered at a point's place is the situation at the panel there, and the places are those of the records that its outcome names.
+use Rattle.std.specs.Prelude.{if◌then◌else◌}
 use Prim.Native.Nat.{ℕ, ◌%◌}
 use mathlib.Core.Path.{◌≡◌, refl}
 use mathlib.Core.List.{List}
 use mathlib.Core.Bool.{Bool, true, false, not, ◌&&◌, ◌||◌}
 use lib.Dec.{eqb}
 use lib.ListN.{length}
-use Rattle.model.specs.Words.{if◌then◌else◌, missing}
+use Rattle.model.specs.Words.{missing}
 use Rattle.model.specs.Numbers as n
 use Rattle.model.specs.Numbers.{NONE}
 use Rattle.model.specs.Site.{credential_id, records, zone_of, point_of, credential_of, factor_disable}

@@ -1,6 +1,5 @@
 -- The outcome of an entry on bytes, with the places of its records: form, object, then the operation.
-use Rattle.std.specs.Prelude.{ℕ, List, not}
-use Rattle.model.specs.Words.{if◌then◌else◌}
+use Rattle.std.specs.Prelude.{ℕ, List, not, if◌then◌else◌}
 use Rattle.model.specs.Numbers as n
 use Rattle.model.specs.Site.{point_id, records, point_of}
 use Rattle.model.specs.State.{count, point_state_of, credential_state_of}

@@ -1,7 +1,6 @@
 -- Records of lent bytes by their places: what is read there, and what a write there leaves.
-use Rattle.std.specs.Prelude.{ℕ, ◌/◌, ◌≡◌, List, [], Bool, false, not, ◌&&◌, eqb, ltb, length, get_or}
+use Rattle.std.specs.Prelude.{ℕ, ◌/◌, ◌≡◌, List, [], Bool, false, not, ◌&&◌, eqb, ltb, length, get_or, if◌then◌else◌}
 use Rattle.octets.specs.Octets.{groups, with_part}
-use Rattle.model.specs.Words.{if◌then◌else◌}
 use Rattle.model.specs.Numbers as n
 use Rattle.model.specs.Numbers.{NONE}
 use Rattle.model.specs.State.{zone_bytes, point_bytes, credential_bytes}

@@ -1,4 +1,5 @@
 -- Demand 3, the count: after every list of runs from fresh a zone's count is T less the smaller of zero and L.
+use Rattle.std.specs.Prelude.{if◌then◌else◌}
 use Prim.Native.Nat.{ℕ, ◌+◌, ◌-◌}
 use mathlib.Core.Path.{◌≡◌, refl, sym, ap}
 use mathlib.Core.List.{List, [], ◌∷◌, map}
@@ -7,7 +8,7 @@ use lib.Dec.{eqb, ltb}
 use lib.IntN.{pos, neg_ℤ}
 use borrow.Author.Tests.{eqb-true, eq-eqb}
 use Rattle.octets.specs.Octets.{field}
-use Rattle.model.specs.Words.{if◌then◌else◌, all, missing}
+use Rattle.model.specs.Words.{all, missing}
 use Rattle.model.specs.Numbers as n
 use Rattle.model.specs.Numbers.{NONE}
 use Rattle.model.specs.Site.{records, reference, zone_of, point_of, is_at, find_in}

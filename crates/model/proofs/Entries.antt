@@ -1,4 +1,5 @@
 -- The i-th entry of a run that is worked: the state that it finds, and its answer.
+use Rattle.std.specs.Prelude.{if◌then◌else◌}
 use Prim.Native.Nat.{ℕ, zero, suc, ◌+◌, ◌*◌, ◌/◌, ◌%◌, ◌≤◌, ◌<◌}
 use native.Mathlib.Omega.{arith}
 use native.Mathlib.Nat.{zero-add, suc-add, suc-mul, add_comm}
@@ -11,7 +12,6 @@ use lib.Seq.{length-take-le, take-take, take-nil}
 use borrow.Author.Tests.{eqb-true, eq-eqb, ltb-false, le-ltb, not-false}
 use Rattle.octets.specs.Octets.{groups}
 use Rattle.octets.proofs.Groups.{length_groups}
-use Rattle.model.specs.Words.{if◌then◌else◌}
 use Rattle.model.specs.State.{Panel, panel, state_of, well_formed}
 use Rattle.model.specs.Entry.{entry_of, entries, answer_bytes}
 use Rattle.model.specs.Step.{apply, entry_outcome, after, answers}

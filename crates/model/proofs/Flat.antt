@@ -1,4 +1,5 @@
 -- Site and state as bytes, and as a panel of records: each gives the other back.
+use Rattle.std.specs.Prelude.{if◌then◌else◌}
 use Prim.Native.Nat.{ℕ, zero, suc, ◌+◌, ◌*◌, ◌/◌, ◌%◌, ◌<◌}
 use native.Mathlib.Omega.{arith}
 use mathlib.Core.Path.{◌≡◌, refl, sym, ◌∙◌, ap}
@@ -10,7 +11,7 @@ use lib.Seq.{take_at, drop_at, length-take-le}
 use borrow.Author.Tests.{eqb-true, eq-eqb}
 use Rattle.octets.specs.Octets.{groups}
 use Rattle.octets.proofs.Groups.{length_groups, joined_back}
-use Rattle.model.specs.Words.{if◌then◌else◌, keep, all, missing}
+use Rattle.model.specs.Words.{keep, all, missing}
 use Rattle.model.specs.Site.{record_kind, find_in, records}
 use Rattle.model.specs.State.{Pair, Panel, paired, panel, sites, state_of, find_by, fresh_point, fresh_credential, fresh_record_as, fresh_record, fresh}
 use Rattle.model.specs.Step.{apply, entry_outcome, after}

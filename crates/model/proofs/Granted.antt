@@ -1,4 +1,5 @@
 -- A grant is earned: what the order of checks passed where it comes to event 1.
+use Rattle.std.specs.Prelude.{if◌then◌else◌}
 use Prim.Native.Nat.{ℕ, ◌≤◌, ◌<◌}
 use native.Mathlib.Omega.{arith}
 use mathlib.Core.Path.{◌≡◌, refl, sym, ◌∙◌, ap}
@@ -9,7 +10,7 @@ use lib.ListN.{get_or, take}
 use borrow.Author.Tests.{eqb-true, eqb-false, eq-eqb, ltb-false, leb-true, not-true, not-false}
 use Rattle.octets.specs.Octets.{same}
 use Rattle.octets.proofs.Laws.{same_refl}
-use Rattle.model.specs.Words.{if◌then◌else◌, any, all, missing}
+use Rattle.model.specs.Words.{any, all, missing}
 use Rattle.model.specs.Numbers as n
 use Rattle.model.specs.Numbers.{NONE}
 use Rattle.model.specs.Site.{point_id, credential_id, records, kind, instance, enabled, negative, role, point_of, is_at, find_in}

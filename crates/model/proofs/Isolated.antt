@@ -1,4 +1,5 @@
 -- An entry of the part reads the part's records alone: its outcome at the panel is its outcome at them.
+use Rattle.std.specs.Prelude.{if◌then◌else◌}
 use Prim.Native.Nat.{ℕ}
 use mathlib.Core.Path.{◌≡◌, refl, sym, ◌∙◌, ap}
 use mathlib.Core.List.{List, [], ◌∷◌}
@@ -6,7 +7,7 @@ use mathlib.Core.Bool.{Bool, true, false, not, ◌&&◌, ◌||◌, beq}
 use lib.Dec.{eqb}
 use borrow.Author.Tests.{eqb-true, not-true}
 use Rattle.octets.specs.Octets.{field}
-use Rattle.model.specs.Words.{if◌then◌else◌, keep, any, all, missing}
+use Rattle.model.specs.Words.{keep, any, all, missing}
 use Rattle.model.specs.Numbers as n
 use Rattle.model.specs.Numbers.{NONE}
 use Rattle.model.specs.Site.{kind, instance, reference, point_of, credential_of, enabled, negative, is_at, find_in}

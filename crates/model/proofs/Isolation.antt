@@ -1,11 +1,12 @@
 -- Demand 3, the self-contained part: its answers and its state records are those of its own records and entries, worked through alone.
+use Rattle.std.specs.Prelude.{if◌then◌else◌}
 use Prim.Native.Nat.{ℕ}
 use mathlib.Core.Path.{◌≡◌, refl, sym, ◌∙◌, ap, ap₂}
 use mathlib.Core.List.{List, [], ◌∷◌, map}
 use mathlib.Core.Bool.{Bool, true, false, not, ◌||◌}
 use lib.Dec.{eqb}
 use borrow.Author.Tests.{eqb-true}
-use Rattle.model.specs.Words.{if◌then◌else◌, keep, all}
+use Rattle.model.specs.Words.{keep, all}
 use Rattle.model.specs.Numbers.{access_zone, access_point, access_credential}
 use Rattle.model.specs.Site.{records, kind, record_kind, is_at}
 use Rattle.model.specs.State.{Pair, Panel, panel, point_state_of, point_bytes, fresh_point, fresh_record_as, fresh_record}

@@ -1,11 +1,12 @@
 -- Laws of the panel: what a test keeps of it, what is found in it, what a write changes of it.
+use Rattle.std.specs.Prelude.{if◌then◌else◌}
 use Prim.Native.Nat.{ℕ}
 use mathlib.Core.Path.{◌≡◌, refl, sym, ◌∙◌}
 use mathlib.Core.List.{List, [], ◌∷◌}
 use mathlib.Core.Bool.{Bool, true, false, not, ◌&&◌, ◌||◌, and-false}
 use lib.Dec.{eqb}
 use borrow.Author.Tests.{eqb-true}
-use Rattle.model.specs.Words.{if◌then◌else◌, keep, any, all, missing}
+use Rattle.model.specs.Words.{keep, any, all, missing}
 use Rattle.model.specs.Numbers.{NONE}
 use Rattle.model.specs.Site.{kind, instance, is_at, find_in}
 use Rattle.model.specs.State.{Pair, Panel, find_by, find, store, write, sites}

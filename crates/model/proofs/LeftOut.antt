@@ -1,4 +1,5 @@
 -- A list with every entry outside a self-contained part left out: the part's entries get the same answers, its records the same state.
+use Rattle.std.specs.Prelude.{if◌then◌else◌}
 use Prim.Native.Nat.{ℕ, ◌*◌, ◌/◌, ◌≤◌}
 use native.Mathlib.Omega.{arith}
 use mathlib.Core.Path.{◌≡◌, refl, sym, ◌∙◌, ap, ap₂}
@@ -7,7 +8,7 @@ use mathlib.Core.Bool.{Bool, true, false, not, ◌||◌, or-true}
 use lib.Dec.{eqb}
 use lib.ListN.{length}
 use lib.Seq.{length-take-le}
-use Rattle.model.specs.Words.{if◌then◌else◌, keep, all, missing}
+use Rattle.model.specs.Words.{keep, all, missing}
 use Rattle.model.specs.Numbers as n
 use Rattle.model.specs.Site.{records}
 use Rattle.model.specs.State.{Pair, Panel, sites, find}

@@ -1,9 +1,10 @@
 -- What holds of the outcome of an entry: refused for its form, refused for want of an object, or worked at its object.
+use Rattle.std.specs.Prelude.{if◌then◌else◌}
 use Prim.Native.Nat.{ℕ}
 use mathlib.Core.Path.{◌≡◌, refl}
 use mathlib.Core.Bool.{Bool, true, false, not}
 use lib.Dec.{eqb}
-use Rattle.model.specs.Words.{if◌then◌else◌, missing}
+use Rattle.model.specs.Words.{missing}
 use Rattle.model.specs.Numbers as n
 use Rattle.model.specs.State.{Pair, Panel, find}
 use Rattle.model.specs.Entry.{operation_of, object_kind, in_form}

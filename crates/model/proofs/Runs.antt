@@ -1,4 +1,5 @@
 -- A list of runs from fresh is one run of all its worked entries over the fresh panel.
+use Rattle.std.specs.Prelude.{if◌then◌else◌}
 use Prim.Native.Nat.{ℕ, suc, ◌/◌, ◌%◌}
 use native.Mathlib.Omega.{arith}
 use mathlib.Core.Path.{◌≡◌, refl, sym, ◌∙◌, ap, ap₂}
@@ -7,7 +8,7 @@ use mathlib.Core.Bool.{Bool, true, false, not, ◌||◌}
 use lib.Dec.{ltb, eqb}
 use lib.ListN.{length}
 use borrow.Author.Tests.{eqb-true, ne_eqb, ltb-true, not-true, not-false}
-use Rattle.model.specs.Words.{if◌then◌else◌, all, missing}
+use Rattle.model.specs.Words.{all, missing}
 use Rattle.model.specs.Numbers.{NONE}
 use Rattle.model.specs.Site.{records, instance, is_at, find_in}
 use Rattle.model.specs.Accept.{in_range, twice, exists, names_exist}

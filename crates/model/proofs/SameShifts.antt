@@ -1,4 +1,5 @@
 -- Sites that differ in their shifts alone: their rules say the same, so that every list of runs is answered alike.
+use Rattle.std.specs.Prelude.{if◌then◌else◌}
 use Prim.Native.Nat.{ℕ}
 use mathlib.Core.Path.{◌≡◌, refl, sym, ◌∙◌, ap}
 use mathlib.Core.List.{List, [], ◌∷◌, map}
@@ -7,7 +8,7 @@ use lib.Dec.{eqb}
 use borrow.Author.Tests.{eqb-true}
 use Rattle.octets.specs.Octets.{same}
 use Rattle.octets.proofs.Laws.{same_eq}
-use Rattle.model.specs.Words.{if◌then◌else◌, keep, any, all}
+use Rattle.model.specs.Words.{keep, any, all}
 use Rattle.model.specs.Numbers as n
 use Rattle.model.specs.Numbers.{NONE}
 use Rattle.model.specs.Site.{kind, records, negative, is_at, find_in}

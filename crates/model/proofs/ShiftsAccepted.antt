@@ -1,4 +1,5 @@
 -- Sites that differ in their shifts alone: refusals 2, 3 and 4 are the same.
+use Rattle.std.specs.Prelude.{if◌then◌else◌}
 use Prim.Native.Nat.{ℕ, zero, suc, ◌*◌, ◌/◌, ◌%◌, ◌≤◌}
 use native.Mathlib.Omega.{arith}
 use mathlib.Core.Path.{◌≡◌, refl, sym, ◌∙◌, ap}
@@ -9,7 +10,7 @@ use lib.ListN.{length, drop, length-drop}
 use lib.Seq.{length-take-le}
 use borrow.Author.Tests.{eqb-true, ne_eqb}
 use Rattle.octets.specs.Octets.{groups}
-use Rattle.model.specs.Words.{if◌then◌else◌, keep, any, all, missing}
+use Rattle.model.specs.Words.{keep, any, all, missing}
 use Rattle.model.specs.Numbers as n
 use Rattle.model.specs.Site.{kind, record_kind, instance, point_of, everywhere, location_kind, location, is_at, find_in, records}
 use Rattle.model.specs.Accept.{real, in_range_as, in_range, twins, twice, exists, none_or_exists, names_exist_as, names_exist}

@@ -1,5 +1,6 @@
 -- The states that well-formed records hold: their bytes are well-formed records, what is found in a panel of such records holds such a
 -- state, and fresh records are well formed.
+use Rattle.std.specs.Prelude.{if◌then◌else◌}
 use Prim.Native.Nat.{ℕ, ◌+◌, ◌*◌, ◌/◌, ◌<◌}
 use native.Mathlib.Omega.{arith}
 use mathlib.Core.Path.{◌≡◌, refl}
@@ -8,7 +9,7 @@ use mathlib.Core.Bool.{Bool, true, false, not, ◌&&◌, ◌||◌}
 use lib.Dec.{ltb, leb, eqb}
 use borrow.Author.Tests.{eqb-true, eqb-false, lt-ltb}
 use Rattle.octets.specs.Octets.{field, digits, same}
-use Rattle.model.specs.Words.{if◌then◌else◌, all, missing, bit_of}
+use Rattle.model.specs.Words.{all, missing, bit_of}
 use Rattle.model.specs.Numbers as n
 use Rattle.model.specs.Numbers.{NONE}
 use Rattle.model.specs.Site.{credential_id, kind, record_kind, disable_given, instance, reference, point_of, credential_of, is_at, find_in}

@@ -1,11 +1,12 @@
 -- Where the records of a panel are well formed, they are so after every entry.
+use Rattle.std.specs.Prelude.{if◌then◌else◌}
 use Prim.Native.Nat.{ℕ}
 use mathlib.Core.Path.{◌≡◌, refl, ◌∙◌, ap}
 use mathlib.Core.List.{List, [], ◌∷◌}
 use mathlib.Core.Bool.{Bool, true, false, not, ◌&&◌, ◌||◌, true≢false}
 use lib.Dec.{ltb, leb, eqb}
 use borrow.Author.Tests.{eqb-true, not-true, leb-false, lt-ltb}
-use Rattle.model.specs.Words.{if◌then◌else◌, all, missing}
+use Rattle.model.specs.Words.{all, missing}
 use Rattle.model.specs.Numbers as n
 use Rattle.model.specs.Numbers.{NONE}
 use Rattle.model.specs.Site.{zone_id, credential_id, point_of, credential_of, is_at, find_in}

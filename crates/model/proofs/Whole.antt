@@ -1,4 +1,5 @@
 -- The laws of a tally over the whole numbers: what a move and a set make of T less the smaller of zero and L.
+use Rattle.std.specs.Prelude.{if◌then◌else◌}
 use Prim.Native.Nat.{ℕ, zero, suc, ◌+◌, ◌-◌}
 use native.Mathlib.Omega.{arith}
 use mathlib.Core.Path.{◌≡◌, refl, sym, ◌∙◌, ap}
@@ -7,7 +8,6 @@ use lib.Dec.{leb, ltb, leb-zero}
 use lib.IntN.{ℤ, pos, negsuc, neg_ℤ, sub_ℕ, ◌+ℤ◌, ◌-ℤ◌, +ℤ_idr, +ℤ_invr, +ℤ_assoc, +ℤ_comm, +ℤ-neg_ℤ_cancel, -ℤ-+ℤ_cancel}
 use lib.Signed.{le_z}
 use borrow.Author.Tests.{le-leb, lt-leb, lt-ltb, ltb-true}
-use Rattle.model.specs.Words.{if◌then◌else◌}
 use Rattle.model.specs.Tally.{Tally, smaller, move, set_to, standing}
 
 -- Zero, or a negative number.

@@ -1,4 +1,5 @@
 -- Wrong codes: a credential's wrong tries and disable after every list of runs from fresh, and the wrong tries that a grant finds.
+use Rattle.std.specs.Prelude.{if◌then◌else◌}
 use Prim.Native.Nat.{ℕ, ◌+◌}
 use native.Mathlib.Omega.{arith}
 use mathlib.Core.Path.{◌≡◌, refl, sym, ◌∙◌, ap, ap₂, subst}
@@ -8,7 +9,7 @@ use lib.Dec.{ltb, leb, eqb}
 use lib.ListN.{drop, get_or}
 use borrow.Author.Tests.{eqb-true, eqb-false, leb-false, lt-ltb}
 use Rattle.octets.specs.Octets.{field}
-use Rattle.model.specs.Words.{if◌then◌else◌, missing}
+use Rattle.model.specs.Words.{missing}
 use Rattle.model.specs.Numbers as n
 use Rattle.model.specs.Numbers.{NONE}
 use Rattle.model.specs.Site.{records, point_of, credential_of, find_in}

@@ -1,7 +1,7 @@
 -- Which site files are turned back: refusals 2, 3 and 4 over the records of a site. Refusal 1 is in Calls.
-use Rattle.std.specs.Prelude.{ℕ, List, [], ◌∷◌, Bool, true, false, not, ◌&&◌, ◌||◌, ltb, leb, eqb, take, drop}
+use Rattle.std.specs.Prelude.{ℕ, List, [], ◌∷◌, Bool, true, false, not, ◌&&◌, ◌||◌, ltb, leb, eqb, take, drop, if◌then◌else◌}
 use Rattle.octets.specs.Octets.{same}
-use Rattle.model.specs.Words.{if◌then◌else◌, any, zeros, within, missing}
+use Rattle.model.specs.Words.{any, zeros, within, missing}
 use Rattle.model.specs.Numbers.{NONE, minutes_of_day, access_zone, access_point, access_credential, passback_soft, mode_deny_all, two_factors, role_identifying, role_confirming, factor_destroyed, format_error, largest_disable, largest_threat}
 use Rattle.model.specs.Site.{kind, record_kind, flags, instance, zone_of, point_of, credential_of, disable_given, everywhere, location_kind, weekdays, location, from_minute, to_minute, role, factor_disable, format, value, is_at, find_in}
 use Rattle.model.specs.declared.RecordKind.{RecordKind}

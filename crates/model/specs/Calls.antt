@@ -1,8 +1,8 @@
 -- The calls: what each returns, and the later contents of every lent buffer. "Turned back": refusals 1 to 6, 10 and 11, each over the
 -- whole input in its turn.
-use Rattle.std.specs.Prelude.{ℕ, ◌*◌, ◌/◌, ◌%◌, Bool, not, ◌||◌, ltb, eqb, length}
+use Rattle.std.specs.Prelude.{ℕ, ◌*◌, ◌/◌, ◌%◌, Bool, not, ◌||◌, ltb, eqb, length, if◌then◌else◌}
 use mathlib.Core.List.{List, map, flatten}
-use Rattle.model.specs.Words.{if◌then◌else◌, all}
+use Rattle.model.specs.Words.{all}
 use Rattle.model.specs.Numbers as n
 use Rattle.model.specs.Site.{records}
 use Rattle.model.specs.Accept.{in_range, twice, names_exist}

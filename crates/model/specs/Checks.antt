@@ -1,7 +1,7 @@
 -- "Order of checks, operation 1": what a factor read at a point looks at, and the event it comes to.
-use Rattle.std.specs.Prelude.{ℕ, ◌*◌, ◌-◌, ◌/◌, ◌%◌, List, Bool, not, ◌&&◌, ◌||◌, ltb, leb, eqb}
+use Rattle.std.specs.Prelude.{ℕ, ◌*◌, ◌-◌, ◌/◌, ◌%◌, List, Bool, not, ◌&&◌, ◌||◌, ltb, leb, eqb, if◌then◌else◌}
 use Rattle.octets.specs.Octets.{same}
-use Rattle.model.specs.Words.{if◌then◌else◌, any, bit, missing}
+use Rattle.model.specs.Words.{any, bit, missing}
 use Rattle.model.specs.Numbers as n
 use Rattle.model.specs.Numbers.{NONE, NEVER, UNLIMITED}
 use Rattle.model.specs.Site.{credential_id, kind, instance, enabled, negative, always, everywhere, location_kind, weekdays, location, from_minute, to_minute, role, format, value, is_at, find_in}

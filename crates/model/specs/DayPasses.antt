@@ -1,7 +1,7 @@
 -- Document 02, job 5: "The estates now sell passes by days of admission." What the entries of a list and their answers show of a credential's grants, beside
 -- its days in the site and in the state.
-use Rattle.std.specs.Prelude.{ℕ, suc, ◌+◌, List, [], ◌∷◌, map, Bool, true, ◌&&◌, ltb, leb, eqb}
-use Rattle.model.specs.Words.{if◌then◌else◌, keep, any, all, bit_of}
+use Rattle.std.specs.Prelude.{ℕ, suc, ◌+◌, List, [], ◌∷◌, map, Bool, true, ◌&&◌, ltb, leb, eqb, if◌then◌else◌}
+use Rattle.model.specs.Words.{keep, any, all, bit_of}
 use Rattle.model.specs.Numbers as n
 use Rattle.model.specs.Site.{records, days_given, is_at, find_in}
 use Rattle.model.specs.State.{panel, find, credential_state_of}

@@ -1,7 +1,7 @@
 -- A grant is earned (beyond the paper): the security officer's list of what held when event 1 was answered.
-use Rattle.std.specs.Prelude.{ℕ, ◌≤◌, ◌<◌, ◌≡◌, List, Bool, true, false, ◌&&◌, ◌||◌, eqb}
+use Rattle.std.specs.Prelude.{ℕ, ◌≤◌, ◌<◌, ◌≡◌, List, Bool, true, false, ◌&&◌, ◌||◌, eqb, if◌then◌else◌}
 use Rattle.octets.specs.Octets.{same}
-use Rattle.model.specs.Words.{if◌then◌else◌, any}
+use Rattle.model.specs.Words.{any}
 use Rattle.model.specs.Numbers as n
 use Rattle.model.specs.Site.{point_id, credential_id, instance, enabled, negative, factor_disable}
 use Rattle.model.specs.State.{Panel, sites, find, below_most}

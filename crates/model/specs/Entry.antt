@@ -1,7 +1,7 @@
 -- "Entries, 24 bytes; answers, 16 bytes": their fields, the operations, and the forms that refusal 7 asks.
-use Rattle.std.specs.Prelude.{ℕ, ◌/◌, List, ◌++◌, Bool, false, not, ◌&&◌, leb, ltb, eqb, length, take, drop}
+use Rattle.std.specs.Prelude.{ℕ, ◌/◌, List, ◌++◌, Bool, false, not, ◌&&◌, leb, ltb, eqb, length, take, drop, if◌then◌else◌}
 use Rattle.octets.specs.Octets.{field, digits, groups, same}
-use Rattle.model.specs.Words.{if◌then◌else◌, zeros}
+use Rattle.model.specs.Words.{zeros}
 use Rattle.model.specs.Numbers.{NONE, NEVER, entry_size, access_zone, access_point, access_credential, format_undefined, argument_lock, largest_disable}
 use Rattle.model.specs.declared.Entry.{Entry}
 use Rattle.model.specs.declared.Answer.{Answer}

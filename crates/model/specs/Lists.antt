@@ -1,8 +1,7 @@
 -- "A list, in both halves, is of journal runs on one accepted site, each with a journal and answers of its own. Its entries are those of
 -- the journals worked through, in turn; a journal turned back adds nothing."
-use Rattle.std.specs.Prelude.{ℕ, ◌*◌, ◌/◌, ◌≡◌, List, [], ◌∷◌, ◌++◌, map, length, take}
+use Rattle.std.specs.Prelude.{ℕ, ◌*◌, ◌/◌, ◌≡◌, List, [], ◌∷◌, ◌++◌, map, length, take, if◌then◌else◌}
 use Rattle.octets.specs.Octets.{field, groups}
-use Rattle.model.specs.Words.{if◌then◌else◌}
 use Rattle.model.specs.Numbers.{entry_size, answer_size}
 use Rattle.model.specs.State.{Panel, panel}
 use Rattle.model.specs.Entry.{entries, entry_of}

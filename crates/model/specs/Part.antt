@@ -1,8 +1,8 @@
 -- "The self-contained part (demand 3)".
-use Rattle.std.specs.Prelude.{ℕ, ◌*◌, ◌/◌, ◌≡◌, Bool, true, false, not, ◌&&◌, ◌||◌, eqb, length, take}
+use Rattle.std.specs.Prelude.{ℕ, ◌*◌, ◌/◌, ◌≡◌, Bool, true, false, not, ◌&&◌, ◌||◌, eqb, length, take, if◌then◌else◌}
 use mathlib.Core.List.{List, [], ◌∷◌, map, flatten}
 use Rattle.std.specs.Bool.{beq}
-use Rattle.model.specs.Words.{if◌then◌else◌, keep, all, missing}
+use Rattle.model.specs.Words.{keep, all, missing}
 use Rattle.model.specs.Numbers as n
 use Rattle.model.specs.Numbers.{NONE}
 use Rattle.model.specs.Site.{zone_id, point_id, credential_id, rights_id, records, kind, record_kind, instance, point_of, credential_of, find_in}

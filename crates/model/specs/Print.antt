@@ -1,8 +1,8 @@
 -- "One journal printed": "from fresh writes each answer as 32 upper-case hexadecimal digits and a line feed, no header; of an input turned
 -- back, only the number in decimal and a line feed".
-use Rattle.std.specs.Prelude.{ℕ, ◌+◌, ◌*◌, ◌/◌, ◌%◌, ltb, length}
+use Rattle.std.specs.Prelude.{ℕ, ◌+◌, ◌*◌, ◌/◌, ◌%◌, ltb, length, if◌then◌else◌}
 use mathlib.Core.List.{List, [], ◌∷◌, ◌++◌, map, flatten}
-use Rattle.model.specs.Words.{if◌then◌else◌, zeros}
+use Rattle.model.specs.Words.{zeros}
 use Rattle.model.specs.Numbers.{entry_size, answer_size}
 use Rattle.model.specs.Calls.{number, is_worked, fresh_state, RunResult, run_journal}
 use Rattle.model.specs.Lists.{answers_in}

@@ -1,7 +1,7 @@
 -- "Site records, 32 bytes each, no header": their fields, and which record a number names.
-use Rattle.std.specs.Prelude.{ℕ, ◌/◌, List, [], ◌∷◌, Bool, ◌&&◌, eqb, length, take, drop}
+use Rattle.std.specs.Prelude.{ℕ, ◌/◌, List, [], ◌∷◌, Bool, ◌&&◌, eqb, length, take, drop, if◌then◌else◌}
 use Rattle.octets.specs.Octets.{field, groups}
-use Rattle.model.specs.Words.{if◌then◌else◌, bit}
+use Rattle.model.specs.Words.{bit}
 use Rattle.model.specs.Numbers.{NONE, record_size, access_zone, access_point, access_rule, access_credential, authentication_factor}
 use Rattle.model.specs.declared.ZoneId.{ZoneId}
 use Rattle.model.specs.declared.PointId.{PointId}

@@ -1,8 +1,8 @@
 -- "State records, one of 32 bytes per site record": their fields, the panel that site and state make, fresh, well formed.
-use Rattle.std.specs.Prelude.{ℕ, zero, suc, ◌/◌, Bool, false, not, ◌&&◌, ◌||◌, ltb, leb, eqb, length, take, drop}
+use Rattle.std.specs.Prelude.{ℕ, zero, suc, ◌/◌, Bool, false, not, ◌&&◌, ◌||◌, ltb, leb, eqb, length, take, drop, if◌then◌else◌}
 use mathlib.Core.List.{List, [], ◌∷◌, ◌++◌, map, flatten}
 use Rattle.octets.specs.Octets.{field, digits}
-use Rattle.model.specs.Words.{if◌then◌else◌, all, zeros, bit_of}
+use Rattle.model.specs.Words.{all, zeros, bit_of}
 use Rattle.model.specs.Numbers.{NONE, NEVER, record_size, access_zone, access_point, access_credential, largest_disable}
 use Rattle.model.specs.Site.{zone_id, point_id, credential_id, record_kind, reference, point_of, credential_of, disable_given, uses_given, days_given, is_at, records}
 use Rattle.model.specs.Accept.{clear, none_or_exists}

@@ -1,6 +1,6 @@
 -- One entry at the panel: its situation, its outcome under its operation, the records written; then a list of entries.
-use Rattle.std.specs.Prelude.{ℕ, ◌+◌, ◌-◌, List, [], ◌∷◌, Bool, true, false, not, ltb, leb, eqb}
-use Rattle.model.specs.Words.{if◌then◌else◌, missing}
+use Rattle.std.specs.Prelude.{ℕ, ◌+◌, ◌-◌, List, [], ◌∷◌, Bool, true, false, not, ltb, leb, eqb, if◌then◌else◌}
+use Rattle.model.specs.Words.{missing}
 use Rattle.model.specs.Numbers as n
 use Rattle.model.specs.Numbers.{NONE}
 use Rattle.model.specs.Site.{zone_id, point_id, credential_id, zone_of, point_of, credential_of, factor_disable}

@@ -1,8 +1,7 @@
 -- "A zone's tally reads the site, the entries and, of their answers, event and refusal. T and L are whole numbers, negative too, and
 -- start at 0."
-use Rattle.std.specs.Prelude.{ℕ, ◌-◌, List, [], ◌∷◌, not, ◌&&◌, eqb, ℤ, pos, neg_ℤ, ◌+ℤ◌, ◌-ℤ◌}
+use Rattle.std.specs.Prelude.{ℕ, ◌-◌, List, [], ◌∷◌, not, ◌&&◌, eqb, ℤ, pos, neg_ℤ, ◌+ℤ◌, ◌-ℤ◌, if◌then◌else◌}
 use Rattle.std.specs.Int.Signed.{le_z}
-use Rattle.model.specs.Words.{if◌then◌else◌}
 use Rattle.model.specs.Numbers as n
 use Rattle.model.specs.Site.{records, zone_of, point_of, is_at, find_in}
 use Rattle.model.specs.State.{panel, find, count}

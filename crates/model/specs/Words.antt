@@ -1,10 +1,5 @@
--- The words that the definitions are written in: if-then-else, tests over lists, lists of zeros.
-use Rattle.std.specs.Prelude.{ℕ, ◌/◌, ◌%◌, ◌^◌, List, [], ◌∷◌, Bool, true, false, ◌&&◌, ◌||◌, leb, eqb, replicate}
-
-infixr 20 if◌then◌else◌
-abbrev pub if◌then◌else◌ {ℓ} : {A : Type ℓ} → Bool → A → A → A
-if true then x else y = x
-if false then x else y = y
+-- The words that the definitions are written in: tests over lists, lists of zeros.
+use Rattle.std.specs.Prelude.{if◌then◌else◌, ℕ, ◌/◌, ◌%◌, ◌^◌, List, [], ◌∷◌, Bool, true, false, ◌&&◌, ◌||◌, leb, eqb, replicate}
 
 module _ {A : Type 0} where
   -- The elements that pass the test, in order.

@@ -1,7 +1,6 @@
 -- Document 02, job 4: "Wrong codes follow the card." What the entries of a list and their answers show of a credential's wrong tries, beside its most in the
 -- site and its state.
-use Rattle.std.specs.Prelude.{ℕ, ◌+◌, List, [], ◌∷◌, Bool, true, false, not, ◌&&◌, ◌||◌, leb, eqb}
-use Rattle.model.specs.Words.{if◌then◌else◌}
+use Rattle.std.specs.Prelude.{ℕ, ◌+◌, List, [], ◌∷◌, Bool, true, false, not, ◌&&◌, ◌||◌, leb, eqb, if◌then◌else◌}
 use Rattle.model.specs.Numbers as n
 use Rattle.model.specs.Site.{records, credential_of, disable_given, is_at, find_in}
 use Rattle.model.specs.State.{panel, find, credential_state_of}

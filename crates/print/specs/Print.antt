@@ -1,6 +1,5 @@
 -- What `print_journal` gives: the text of a journal that is run from fresh, and every lent buffer.
-use Rattle.std.specs.Prelude.{ℕ, ◌*◌, ◌/◌, List, ◌++◌, Bool, ◌&&◌, leb, length, drop}
-use Rattle.model.specs.Words.{if◌then◌else◌}
+use Rattle.std.specs.Prelude.{ℕ, ◌*◌, ◌/◌, List, ◌++◌, Bool, ◌&&◌, leb, length, drop, if◌then◌else◌}
 use Rattle.model.specs.Numbers.{entry_size}
 use Rattle.model.specs.Calls.{number, is_worked, fresh_state, RunResult, run_journal}
 use Rattle.model.specs.Print.{answers_text, decimal_line}

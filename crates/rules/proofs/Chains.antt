@@ -1,4 +1,5 @@
 -- The walk along a chain for the rules of a class: its start, a turn of it, its end; and the scan of all records.
+use Rattle.std.specs.Prelude.{if◌then◌else◌}
 use Prim.Native.Nat.{ℕ, suc, ◌+◌, ◌/◌, ◌%◌, ◌≤◌, ◌<◌}
 use mathlib.Core.Path.{◌≡◌}
 use mathlib.Core.List.{List, [], ◌∷◌}
@@ -7,7 +8,7 @@ use native.Mathlib.Omega.{arith}
 use lib.Dec.{eqb}
 use lib.ListN.{length, drop, get_or, length-drop}
 use borrow.Author.Tests.{eqb-true}
-use Rattle.model.specs.Words.{if◌then◌else◌, keep, bit}
+use Rattle.model.specs.Words.{keep, bit}
 use Rattle.model.specs.Numbers.{access_rule}
 use Rattle.model.specs.Site.{kind}
 use Rattle.model.specs.Checks.{verdict}

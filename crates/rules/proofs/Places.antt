@@ -1,4 +1,5 @@
 -- A rule of the rights that fits in location is of one of the classes that are walked, so what the rules of those find is what all records find.
+use Rattle.std.specs.Prelude.{if◌then◌else◌}
 use Prim.Native.Nat.{ℕ}
 use mathlib.Core.Path.{◌≡◌, refl, sym, ◌∙◌}
 use mathlib.Core.List.{List}
@@ -6,7 +7,7 @@ use mathlib.Core.Bool.{Bool, true, false, not, ◌&&◌, ◌||◌, or-true, fals
 use lib.Dec.{eqb}
 use lib.ListN.{take}
 use borrow.Author.Tests.{eqb-true, eq-eqb}
-use Rattle.model.specs.Words.{if◌then◌else◌, keep, any}
+use Rattle.model.specs.Words.{keep, any}
 use Rattle.model.specs.Numbers.{NONE, access_zone, access_point, access_rule}
 use Rattle.model.specs.Site.{kind, instance, enabled, negative, everywhere, location_kind, location, is_at}
 use Rattle.model.specs.Checks.{of_rights, enabled_rule, location_fits, time_fits, verdict}

@@ -1,11 +1,12 @@
 -- The laws of verdicts: in any order and any number of times they find the same, and what a record finds all records find.
+use Rattle.std.specs.Prelude.{if◌then◌else◌}
 use Prim.Native.Nat.{ℕ, zero, suc, ◌<◌}
 use mathlib.Core.Path.{◌≡◌, refl}
 use mathlib.Core.List.{List, [], ◌∷◌}
 use mathlib.Core.Bool.{Bool, true, false, ◌||◌, or_assoc, or_comm, or_self, or-false, or-true}
 use native.Mathlib.Omega.{arith}
 use lib.ListN.{length, get_or}
-use Rattle.model.specs.Words.{if◌then◌else◌, keep, any}
+use Rattle.model.specs.Words.{keep, any}
 use Rattle.model.specs.Checks.{verdict}
 use Rattle.model.specs.declared.Verdict.{Verdict}
 use Rattle.rules.specs.declared.Asked.{Asked}

@@ -1,6 +1,6 @@
 -- What the rules are asked, what they find, and the classes that a walk over them goes through.
-use Rattle.std.specs.Prelude.{ℕ, ◌<◌, ◌≡◌, List, [], ◌∷◌, Bool, false, not, ◌&&◌, ◌||◌, eqb}
-use Rattle.model.specs.Words.{if◌then◌else◌, keep, any}
+use Rattle.std.specs.Prelude.{ℕ, ◌<◌, ◌≡◌, List, [], ◌∷◌, Bool, false, not, ◌&&◌, ◌||◌, eqb, if◌then◌else◌}
+use Rattle.model.specs.Words.{keep, any}
 use Rattle.model.specs.Numbers.{NONE, access_zone, access_point}
 use Rattle.model.specs.Checks.{verdict}
 use Rattle.model.specs.declared.Verdict.{Verdict}

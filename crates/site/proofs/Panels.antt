@@ -1,11 +1,11 @@
 -- A record's place is its place in the panel: what is found stands there, and what is written is written there.
+use Rattle.std.specs.Prelude.{if◌then◌else◌}
 use Prim.Native.Nat.{ℕ, suc, ◌-◌, ◌≤◌}
 use mathlib.Core.Path.{◌≡◌, refl, ap}
 use mathlib.Core.List.{List, [], ◌∷◌}
 use mathlib.Core.Bool.{Bool, true, false}
 use native.Mathlib.Omega.{arith}
 use lib.ListN.{get_or, set}
-use Rattle.model.specs.Words.{if◌then◌else◌}
 use Rattle.model.specs.Site.{records, is_at}
 use Rattle.model.specs.State.{Panel, sites, find, store}
 use Rattle.site.specs.Place.{place_from, place_of}

@@ -1,11 +1,11 @@
 -- A record's place, and the record.
+use Rattle.std.specs.Prelude.{if◌then◌else◌}
 use Prim.Native.Nat.{ℕ, suc, ◌-◌, ◌/◌, ◌≤◌, ◌<◌}
 use mathlib.Core.Path.{◌≡◌, refl}
 use mathlib.Core.List.{List, [], ◌∷◌}
 use mathlib.Core.Bool.{Bool, true, false}
 use native.Mathlib.Omega.{arith}
 use lib.ListN.{length, get_or}
-use Rattle.model.specs.Words.{if◌then◌else◌}
 use Rattle.octets.proofs.Groups.{length_group}
 use Rattle.model.specs.Site.{records, is_at, find_in, lookup}
 use Rattle.model.specs.Accept.{exists}

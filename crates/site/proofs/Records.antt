@@ -1,4 +1,5 @@
 -- The records of a site: what is found of them or is not, what passes, and what a rule in range names.
+use Rattle.std.specs.Prelude.{if◌then◌else◌}
 use Prim.Native.Nat.{ℕ, zero, suc, ◌+◌, ◌*◌, ◌/◌, ◌≤◌, ◌<◌}
 use mathlib.Core.Path.{◌≡◌, refl}
 use mathlib.Core.List.{List, [], ◌∷◌}
@@ -8,7 +9,7 @@ use lib.Dec.{eqb, eqb-suc-zero}
 use lib.ListN.{length, take, drop, get_or, length-drop}
 use lib.Seq.{length-take-le}
 use Rattle.octets.specs.Octets.{groups}
-use Rattle.model.specs.Words.{if◌then◌else◌, missing, any, all}
+use Rattle.model.specs.Words.{missing, any, all}
 use Rattle.model.specs.Numbers.{access_zone, access_point}
 use Rattle.model.specs.Site.{record_kind, instance, everywhere, location_kind, records, find_in}
 use Rattle.model.specs.Accept.{real, rule_in_range, in_range_as, in_range, twins, twice}

@@ -1,4 +1,5 @@
 -- What is sought along a chain: an object, a factor, a twin. Each is in the bucket of that chain, and of one kind.
+use Rattle.std.specs.Prelude.{if◌then◌else◌}
 use Prim.Native.Nat.{ℕ}
 use mathlib.Core.Path.{◌≡◌, refl, sym, ◌∙◌}
 use mathlib.Core.List.{List, [], ◌∷◌}
@@ -6,7 +7,7 @@ use mathlib.Core.Bool.{Bool, true, false, ◌&&◌, and-false}
 use lib.Dec.{eqb}
 use borrow.Author.Tests.{eqb-true}
 use Rattle.octets.specs.Octets.{field}
-use Rattle.model.specs.Words.{if◌then◌else◌, any}
+use Rattle.model.specs.Words.{any}
 use Rattle.model.specs.Numbers.{access_rule, authentication_factor, role_identifying, role_confirming}
 use Rattle.model.specs.Site.{kind, role, is_at, find_in}
 use Rattle.model.specs.Accept.{twins}

@@ -1,7 +1,6 @@
 -- A factor as it is presented: which records fit it, and their bucket in an index.
-use Rattle.std.specs.Prelude.{ℕ, List, Bool}
+use Rattle.std.specs.Prelude.{ℕ, List, Bool, if◌then◌else◌}
 use Rattle.octets.specs.Octets.{field}
-use Rattle.model.specs.Words.{if◌then◌else◌}
 use Rattle.model.specs.Checks.{identifying, confirming}
 use Rattle.index.specs.Index.{factor_bucket}
 use Rattle.site.specs.declared.Presented.{Presented}

@@ -1,6 +1,6 @@
 -- Parts of the model's definitions that have a function of their own.
-use Rattle.std.specs.Prelude.{ℕ, List, not}
-use Rattle.model.specs.Words.{if◌then◌else◌, all}
+use Rattle.std.specs.Prelude.{ℕ, List, not, if◌then◌else◌}
+use Rattle.model.specs.Words.{all}
 use Rattle.model.specs.Accept.{in_range, twice, names_exist}
 use Rattle.model.specs.declared.Returned.{Returned}
 use Rattle.model.specs.declared.Returned.TheVariants.{WorkedThrough, SiteField, SiteTwice, SiteMissing}

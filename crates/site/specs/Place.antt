@@ -1,6 +1,5 @@
 -- Where the record that a number names stands among the records of a site.
-use Rattle.std.specs.Prelude.{ℕ, zero, suc, List, [], ◌∷◌, Bool}
-use Rattle.model.specs.Words.{if◌then◌else◌}
+use Rattle.std.specs.Prelude.{ℕ, zero, suc, List, [], ◌∷◌, Bool, if◌then◌else◌}
 use Rattle.model.specs.Site.{records, is_at}
 use Rattle.site.specs.declared.Place.{Place}
 use Rattle.site.specs.declared.Place.TheVariants.{At, Nothing}

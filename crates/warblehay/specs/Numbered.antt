@@ -1,6 +1,5 @@
 -- What a call gives to C: the number of its outcome, and the later contents of the buffers that it is lent to write.
-use Rattle.std.specs.Prelude.{ℕ, List, eqb}
-use Rattle.model.specs.Words.{if◌then◌else◌}
+use Rattle.std.specs.Prelude.{ℕ, List, eqb, if◌then◌else◌}
 use Rattle.model.specs.Calls.{number, FreshResult, RunResult}
 use Rattle.wiegand.specs.Wiegand.{returned_number}
 use Rattle.wiegand.specs.declared.Reading.{Reading}

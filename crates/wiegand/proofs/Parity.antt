@@ -1,4 +1,5 @@
 -- Parity: what one bit does to it, where a bit of a number is changed, and which parity bits are right.
+use Rattle.std.specs.Prelude.{if◌then◌else◌}
 use mathlib.Core.Path.{◌≡◌, refl, sym, ap, ◌∙◌}
 use mathlib.Core.List.{List, ◌∷◌, ◌++◌}
 use mathlib.Core.Bool.{Bool, true, false, not}
@@ -9,7 +10,7 @@ use native.Mathlib.Omega.{arith}
 use lib.Dec.{eqb}
 use lib.ListN.{length, take, drop, length-append}
 use lib.Seq.{take-append-le, drop-append-le, take-append-add, drop-append-add}
-use Rattle.model.specs.Words.{if◌then◌else◌, bit, bit_of}
+use Rattle.model.specs.Words.{bit, bit_of}
 use Rattle.wiegand.specs.Wiegand.{bits, number_of, number_of_ones, is_even, is_odd, first_parity, last_parity}
 use Rattle.wiegand.specs.Theorems.{changed}
 use Rattle.wiegand.proofs.Bits.{length_bits, bits_join, number_bits, number_lt, bits_number, number_append, ones_append}

@@ -1,4 +1,5 @@
 -- What the way back writes is good and is read back, and nothing else is good.
+use Rattle.std.specs.Prelude.{if◌then◌else◌}
 use mathlib.Core.Path.{◌≡◌, refl, sym, ap, ap₂, ◌∙◌}
 use mathlib.Core.List.{List, [], ◌∷◌, ◌++◌}
 use mathlib.Core.Bool.{Bool, true, false, not, ◌&&◌, ◌||◌}
@@ -12,7 +13,7 @@ use lib.Seq.{take-append-le, drop-append-le}
 use borrow.Author.Tests.{lt-leb, leb-false, eqb-true, not-false}
 use Rattle.octets.specs.Octets.{digits}
 use Rattle.octets.proofs.Laws.{field_digits}
-use Rattle.model.specs.Words.{if◌then◌else◌, bit, bit_of, zeros}
+use Rattle.model.specs.Words.{bit, bit_of, zeros}
 use Rattle.model.proofs.Laws.{and_left, and_right, or_left, or_right}
 use Rattle.wiegand.specs.declared.Reading.{Reading}
 use Rattle.wiegand.specs.Wiegand.{bits, number_of, number_of_ones, is_even, is_odd, first_parity, last_parity, facility_of, card_of, factor, factor_of, reading_error, nothing_made, read_wiegand26, between, first_parity_bit, last_parity_bit, written, write_wiegand26, format_wiegand26}

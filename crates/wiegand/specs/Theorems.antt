@@ -1,7 +1,7 @@
 -- What is proved of the readings: each statement is a type, and proofs/ has a theorem of it.
-use Rattle.std.specs.Prelude.{ℕ, ◌+◌, ◌-◌, ◌^◌, ◌≤◌, ◌<◌, ◌≡◌}
+use Rattle.std.specs.Prelude.{ℕ, ◌+◌, ◌-◌, ◌^◌, ◌≤◌, ◌<◌, ◌≡◌, if◌then◌else◌}
 use Rattle.octets.specs.Octets.{field}
-use Rattle.model.specs.Words.{if◌then◌else◌, bit}
+use Rattle.model.specs.Words.{bit}
 use Rattle.wiegand.specs.Wiegand.{factor, reading_error, read_wiegand26, write_wiegand26, format_wiegand26}
 use Rattle.wiegand.specs.declared.Reading.{Reading}
 

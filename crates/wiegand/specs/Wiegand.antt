@@ -1,7 +1,7 @@
 -- Document 02, job 12, "Raw 26-bit readers": the bits of a reader to the factor of a journal entry, and the way back.
-use Rattle.std.specs.Prelude.{ℕ, zero, suc, ◌+◌, ◌*◌, ◌%◌, ◌^◌, List, [], ◌∷◌, ◌++◌, Bool, not, ◌&&◌, ◌||◌, leb, eqb, length, take, drop}
+use Rattle.std.specs.Prelude.{ℕ, zero, suc, ◌+◌, ◌*◌, ◌%◌, ◌^◌, List, [], ◌∷◌, ◌++◌, Bool, not, ◌&&◌, ◌||◌, leb, eqb, length, take, drop, if◌then◌else◌}
 use Rattle.octets.specs.Octets.{digits}
-use Rattle.model.specs.Words.{if◌then◌else◌, zeros, bit, bit_of}
+use Rattle.model.specs.Words.{zeros, bit, bit_of}
 use Rattle.model.specs.Numbers.{format_undefined, format_error}
 use Rattle.wiegand.specs.declared.Reading.{Reading}
 use Rattle.wiegand.specs.declared.BitsReturned.{BitsReturned}
