@@ -20,6 +20,12 @@ pub enum Verdict {
 
 const LIMIT: Duration = Duration::from_secs(120);
 
+/// What a check may use, in KiB; each of its threads reserves 1 GiB for its stack.
+const MEMORY: u32 = 12_000_000;
+
+/// The status of a check that refuses the crate. With another it judged nothing.
+const NOT_PROVED: i32 = 1;
+
 /// What is said of declarations that rest on one that has an error.
 const NOT_CHECKED: [&str; 2] = [" was not checked: ", " were not checked: "];
 
@@ -135,14 +141,17 @@ impl WorkingCopy {
         })
     }
 
-    /// Whether the check proves all; nothing if it does not end in time.
+    /// Whether the check proves all; nothing if it does not end in time, or without a verdict.
     fn run(&self, log: &Path) -> Result<Option<bool>, String> {
         let verb = if self.whole { "verdict" } else { "check" };
         let checked = self.root.join("crates").join(self.layout.subject.name());
         let out = fs::File::create(log).or_else(|e| failed(log, e))?;
         let err = out.try_clone().or_else(|e| failed(log, e))?;
         let mut shell = Command::new("sh");
-        shell.args(["-c", &format!("ulimit -d 6000000; exec rt {verb}")]);
+        shell.args([
+            "-c",
+            &format!("ulimit -d {MEMORY}; exec rt {verb} --jobs 2"),
+        ]);
         shell
             .current_dir(&checked)
             .stdin(Stdio::null())
@@ -153,7 +162,8 @@ impl WorkingCopy {
         let start = Instant::now();
         while start.elapsed() < LIMIT {
             if let Some(status) = child.try_wait().or_else(|e| failed(Path::new("rt"), e))? {
-                return Ok(Some(status.success()));
+                let judged = status.success() || status.code() == Some(NOT_PROVED);
+                return Ok(judged.then_some(status.success()));
             }
             std::thread::sleep(Duration::from_millis(20));
         }
