@@ -31,6 +31,9 @@ const PRIMITIVES: [(&str, usize); 8] = [
 /// The parameters of a reader: the part, and nothing else.
 const PART: &str = "part: &[u8]";
 
+/// What the name of a reader ends in among the definitions, where it would be that of a definition.
+const RENAMED: &str = "_law";
+
 /// Fewer would mean that the files are read wrongly.
 const FEWEST: usize = 70;
 
@@ -248,19 +251,39 @@ fn place_of(offset: &str, width: &str) -> Place {
     Some((offset.parse().ok()?, width.parse().ok()?))
 }
 
-/// `(λ s. zoneOf s .«upper_limit») numberIn` begins with `zoneOf .upper_limit`, `Site.kind numberIn`
+/// What stands between the bracket that a text begins with and the one that closes it.
+fn inside(text: &str) -> Option<&str> {
+    let mut depth = 0;
+    for (at, c) in text.char_indices() {
+        match c {
+            '(' => depth += 1,
+            ')' => depth -= 1,
+            _ => {}
+        }
+        if depth == 0 {
+            return text[..at].strip_prefix('(');
+        }
+    }
+    None
+}
+
+/// `(λ s. (zone_of s).upper_limit) number_in` begins with `zone_of .upper_limit`, `Site.kind number_in`
 /// with `Site.kind`.
 fn definition_at_start(text: &str) -> String {
-    let Some(inside) = text.strip_prefix('(') else {
+    let Some(inside) = inside(text) else {
         return text.split(' ').next().unwrap_or(text).to_owned();
     };
-    let (inside, _) = inside.split_once(')').expect("the end of a definition");
     let Some(function) = inside.strip_prefix("λ ") else {
         return inside.to_owned();
     };
     let (variable, value) = function.split_once(". ").expect("a function's value");
-    let words = value.split(' ').filter(|word| *word != variable);
-    Vec::from_iter(words).join(" ").replace(['«', '»'], "")
+    let (made, member) = value.split_once(").").expect("a member");
+    let argument = format!(" {variable}");
+    let definition = made
+        .strip_prefix('(')
+        .and_then(|made| made.strip_suffix(&argument))
+        .expect("a definition of the variable");
+    format!("{definition} .{member}")
 }
 
 fn row_of_definition(text: &str) -> Row {
@@ -268,8 +291,8 @@ fn row_of_definition(text: &str) -> Row {
     let words = Vec::from_iter(text.splitn(4, ' '));
     let [size, offset, width, rest] = words[..].try_into().expect("what it reads");
     let size = match size {
-        "record-size" => 32,
-        "entry-size" => 24,
+        "record_size" => 32,
+        "entry_size" => 24,
         _ => panic!("{size} is no size of a part"),
     };
     Row {
@@ -290,6 +313,7 @@ fn definitions() -> BTreeMap<String, Row> {
             module = name.to_lowercase();
         } else if let Some(member) = line.strip_prefix("  pub ") {
             let (name, text) = member.split_once(" : ").expect("a reader");
+            let name = name.strip_suffix(RENAMED).unwrap_or(name);
             let row = row_of_definition(text);
             add(&mut rows, format!("{module}::{name}"), row);
         }
@@ -297,11 +321,11 @@ fn definitions() -> BTreeMap<String, Row> {
     rows
 }
 
-/// The name of a reader in the definitions: `site::point-of-muster` is `site::point_of.muster`.
+/// The name of a reader in the definitions: `site::point_of_muster` is `site::point_of.muster`.
 fn defined_name(name: &str) -> String {
     let (module, rest) = name.split_once("::").expect("a module");
     let last = rest.rsplit("::").next().unwrap_or(rest);
-    format!("{module}::{}", last.replace(['_', '.'], "-"))
+    format!("{module}::{}", last.replace('.', "_"))
 }
 
 fn document() -> BTreeMap<String, Row> {

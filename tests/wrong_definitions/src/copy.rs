@@ -20,6 +20,15 @@ pub enum Verdict {
 
 const LIMIT: Duration = Duration::from_secs(120);
 
+/// What a check may use, in KiB; each of its threads reserves 1 GiB for its stack.
+const MEMORY: u32 = 12_000_000;
+
+/// The status of a check that refuses the crate. With another it judged nothing.
+const NOT_PROVED: i32 = 1;
+
+/// What is said of declarations that rest on one that has an error.
+const NOT_CHECKED: [&str; 2] = [" was not checked: ", " were not checked: "];
+
 /// The same, with the module of the case that refused it.
 pub struct Outcome {
     pub verdict: Verdict,
@@ -35,7 +44,7 @@ pub struct WorkingCopy {
 }
 
 impl WorkingCopy {
-    /// Made anew at `root` from the repository. `whole`: each change is tried by `rt check`, from nothing known.
+    /// Made anew at `root` from the repository. `whole`: each change is tried by `rt verdict`, from nothing known.
     pub fn new(
         repository: &Path,
         root: &Path,
@@ -84,8 +93,8 @@ impl WorkingCopy {
         let mut found = BTreeSet::from([name.to_string()]);
         let mut todo = vec![name.to_string()];
         while let Some(module) = todo.pop() {
-            let uses =
-                |other: &str| self.cases[&module].contains(&format!("·proofs.proofs.{other}."));
+            let own = format!("Rattle.{}.proofs", self.layout.subject.name());
+            let uses = |other: &str| self.cases[&module].contains(&format!("{own}.{other}."));
             for other in self.cases.keys().filter(|other| uses(other)) {
                 if found.insert(other.clone()) {
                     todo.push(other.clone());
@@ -132,16 +141,19 @@ impl WorkingCopy {
         })
     }
 
-    /// Whether the check proves all; nothing if it does not end in time.
+    /// Whether the check proves all; nothing if it does not end in time, or without a verdict.
     fn run(&self, log: &Path) -> Result<Option<bool>, String> {
-        let verb = if self.whole { "check" } else { "dev" };
-        let name = self.layout.subject.name();
+        let verb = if self.whole { "verdict" } else { "check" };
+        let checked = self.root.join("crates").join(self.layout.subject.name());
         let out = fs::File::create(log).or_else(|e| failed(log, e))?;
         let err = out.try_clone().or_else(|e| failed(log, e))?;
         let mut shell = Command::new("sh");
-        shell.args(["-c", &format!("ulimit -d 6000000; exec rt {verb} {name}")]);
+        shell.args([
+            "-c",
+            &format!("ulimit -d {MEMORY}; exec rt {verb} --jobs 2"),
+        ]);
         shell
-            .current_dir(&self.root)
+            .current_dir(&checked)
             .stdin(Stdio::null())
             .stdout(out)
             .stderr(err)
@@ -150,7 +162,8 @@ impl WorkingCopy {
         let start = Instant::now();
         while start.elapsed() < LIMIT {
             if let Some(status) = child.try_wait().or_else(|e| failed(Path::new("rt"), e))? {
-                return Ok(Some(status.success()));
+                let judged = status.success() || status.code() == Some(NOT_PROVED);
+                return Ok(judged.then_some(status.success()));
             }
             std::thread::sleep(Duration::from_millis(20));
         }
@@ -164,16 +177,17 @@ impl WorkingCopy {
     }
 
     /// A failed check refuses the change where its errors are in cases alone and one is a fact that does not hold. An error in the definitions,
-    /// or in what the cases rest on, makes errors in the cases too, and says nothing of them.
+    /// or in what the cases rest on, makes errors in the cases too, and says nothing of them. A file is named as it stands in the crate that is
+    /// checked.
     fn judged(&self, said: &str) -> Outcome {
-        let name = self.layout.subject.name();
         let case_of = |line: &str| {
-            let in_case = |c: &&String| line.contains(&format!("/{name}/proofs/{c}.antt:"));
+            let in_case = |c: &&String| line.starts_with(&format!("./proofs/{c}.antt:"));
             self.cases.keys().find(in_case).cloned()
         };
         let errors: Vec<&str> = said.lines().filter(|l| l.contains(": error: ")).collect();
         let in_cases = errors.iter().all(|l| case_of(l).is_some());
-        let mut facts = errors.iter().filter(|l| !l.contains("was not admitted"));
+        let follows = |line: &str| NOT_CHECKED.iter().any(|words| line.contains(words));
+        let mut facts = errors.iter().filter(|line| !follows(line));
         let module = facts.next().filter(|_| in_cases).and_then(|l| case_of(l));
         let verdict = match module {
             Some(_) => Verdict::Refused,
@@ -201,10 +215,10 @@ mod tests {
             cases,
             whole: false,
         };
-        let fact = "/c/model/proofs/Runs.antt:1:2: error: `a`: the two types differ\n";
-        let follows = "/c/model/proofs/Runs.antt:3:4: error: `b`: `a` was not admitted\n";
-        let in_specs = "/c/model/specs/Site.antt:5:6: error: `kind`: not in scope\n";
-        let in_base = "/c/model/proofs/Open.antt:7:8: error: `definitions`: cannot be unfolded\n";
+        let fact = "./proofs/Runs.antt:1:2: error: `a`: the two types differ\n";
+        let follows = "./proofs/Runs.antt:3:4: error: 1 declaration that depends on `a`, which was not admitted, was not checked: b\n";
+        let in_specs = "./specs/Site.antt:5:6: error: `kind`: `c` is not in scope\n";
+        let in_base = "./proofs/Open.antt:7:8: error: 2 declarations that depend on `kind`, which was rejected, were not checked: d and e\n";
         let verdict = |said: &[&str]| copy.judged(&said.concat()).verdict;
         assert_eq!(verdict(&[fact, follows]), Verdict::Refused);
         assert_eq!(verdict(&[in_specs, fact]), Verdict::NotTyped);

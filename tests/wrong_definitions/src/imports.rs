@@ -4,6 +4,9 @@ use crate::names::Names;
 use crate::subject::Subject;
 use crate::tokens::tokens;
 
+/// What the definitions have of the library.
+const PRELUDE: &str = "Rattle.std.specs.Prelude";
+
 /// The text of a subject's file with the names of a change brought in.
 pub fn with_imports(text: &str, change: &str, subject: Subject, names: &Names) -> String {
     let mut text = text.to_string();
@@ -18,15 +21,12 @@ pub fn with_imports(text: &str, change: &str, subject: Subject, names: &Names) -
 fn home(word: &str, subject: Subject, names: &Names) -> Option<(String, String)> {
     let found = |module: &str, name: &str| Some((module.to_string(), name.to_string()));
     match word {
-        "+" | "-" | "*" | "/" | "%" | "^" => found("Prim.Native.Nat", &format!("_{word}_")),
-        "leb" | "ltb" | "eqb" => found("lib.Dec", word),
-        "not" | "true" | "false" => found("mathlib.Core.Bool", word),
-        "&&" | "||" => found("mathlib.Core.Bool", &format!("_{word}_")),
-        "take" | "drop" => found("lib.ListN", word),
+        "+" | "-" | "*" | "/" | "%" | "^" | "&&" | "||" => found(PRELUDE, &format!("◌{word}◌")),
+        "leb" | "ltb" | "eqb" | "not" | "true" | "false" | "take" | "drop" => found(PRELUDE, word),
         "any" | "all" => found(&subject.module("model", "Words"), word),
         _ if names.constant(word).is_some() => found(&subject.module("model", "Numbers"), word),
         _ => {
-            let module = format!("declared.{}.the-variants", names.enum_of(word)?);
+            let module = format!("declared.{}.TheVariants", names.enum_of(word)?);
             found(&subject.module(subject.name(), &module), word)
         }
     }
@@ -59,11 +59,11 @@ mod tests {
 
     #[test]
     fn a_name_is_brought_in_once() {
-        let text = "-- why\nuse lib.Dec.{eqb}\n";
+        let text = "-- why\nuse Rattle.std.specs.Prelude.{eqb}\n";
         let once = brought_in(text, "leb a (b + eqb)", &Names::default());
         assert_eq!(
             once,
-            "-- why\nuse Prim.Native.Nat.{_+_}\nuse lib.Dec.{leb, eqb}\n"
+            "-- why\nuse Rattle.std.specs.Prelude.{◌+◌, leb, eqb}\n"
         );
         assert_eq!(brought_in(&once, "leb", &Names::default()), once);
     }
@@ -71,7 +71,7 @@ mod tests {
     #[test]
     fn a_variant_is_of_the_crate_that_is_checked() {
         let names = Names::new(&[], "pub enum E {\n    X,\n    Y,\n}\n");
-        let module = "Rattle·wiegand·specs.specs.declared.E.the-variants";
+        let module = "Rattle.wiegand.specs.declared.E.TheVariants";
         assert_eq!(brought_in("", "X", &names), format!("use {module}.{{X}}\n"));
     }
 }

@@ -139,7 +139,8 @@ fn modules(
     test: &dyn Fn(&str) -> bool,
 ) -> Result<BTreeMap<String, String>, String> {
     let list = read(&directory.join("Lib.antt"))?;
-    let names = list.lines().filter_map(|l| l.strip_prefix("pub mod "));
+    let names = list.lines();
+    let names = names.filter_map(|l| l.trim_start_matches("pub ").strip_prefix("mod "));
     names
         .filter(|name| test(name))
         .map(|name| {
@@ -149,11 +150,9 @@ fn modules(
         .collect()
 }
 
-/// A file of cases with the names that modules have within the crate `model`.
+/// A file of cases with the names that its modules have within the crate `model`.
 fn in_model(text: &str) -> String {
-    text.replace("Rattle·model.proofs.", "Rattle·model·proofs.proofs.")
-        .replace("Rattle·model.specs.", "Rattle·model·specs.specs.")
-        .replace("Rattle·cases·proofs.proofs.", "Rattle·model·proofs.proofs.")
+    text.replace("Rattle.cases.proofs.", "Rattle.model.proofs.")
 }
 
 /// Code without the modules that it names.

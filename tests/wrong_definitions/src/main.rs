@@ -9,10 +9,10 @@
 //!     --definition kind    those of one definition
 //!     --part 2/3           the second of each three
 //!     --jobs 2             working copies at once
-//!     --whole              each by `rt check`, from nothing known
+//!     --whole              each by `rt verdict`, from nothing known
 //!     --show               print them and try none
 //!
-//! A change is tried in a working copy under `target/wrong_definitions` by `rt dev`, which goes over what the change reaches. One that the
+//! A change is tried in a working copy under `target/wrong_definitions` by `rt check`, which goes over what the change reaches. One that the
 //! definitions themselves do not take (a name or a type that does not fit) is counted apart. Changes that say the same are in the file `equal`,
 //! each with the reason why no input tells the two apart; they are left out. Exit status 1 if one was not refused.
 

@@ -147,10 +147,10 @@ impl Names {
 }
 
 fn family(constant: &str) -> &str {
-    if constant.ends_with("-size") {
+    if constant.ends_with("_size") {
         return "size";
     }
-    match constant.split('-').next().unwrap_or(constant) {
+    match constant.split('_').next().unwrap_or(constant) {
         "authentication" => "access",
         first => first,
     }
@@ -194,12 +194,12 @@ mod tests {
     #[test]
     fn siblings_have_one_type() {
         let code = "pub struct S {\n    pub a: u8,\n    pub b: bool,\n    pub c: u32,\n}\npub enum E {\n    X,\n    Y,\n}\n";
-        let numbers = "abbrev pub role-a : ℕ\nrole-a = 0\n\nabbrev pub b : ℕ\nb = 1\n\nabbrev pub role-c : ℕ\nrole-c = 2\n";
+        let numbers = "abbrev pub role_a : ℕ\nrole_a = 0\n\nabbrev pub b : ℕ\nb = 1\n\nabbrev pub role_c : ℕ\nrole_c = 2\n";
         let names = Names::new(&[&File::new("Numbers.antt", numbers.to_string())], code);
         assert_eq!(names.siblings("a"), ["c"]);
         assert!(names.siblings("b").is_empty());
         assert_eq!(names.variant("Y").unwrap(), "X");
-        assert_eq!(names.constant("role-a").unwrap(), "role-c");
-        assert!(names.is_zero("n.role-a") && !names.is_zero("b"));
+        assert_eq!(names.constant("role_a").unwrap(), "role_c");
+        assert!(names.is_zero("n.role_a") && !names.is_zero("b"));
     }
 }

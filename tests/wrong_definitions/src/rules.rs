@@ -316,18 +316,8 @@ fn other_field(b: &Body, i: usize, field: &str, found: &mut Vec<Change>) {
         }
         return;
     }
-    let bare = field.trim_start_matches('«').trim_end_matches('»');
-    for sibling in b.names.siblings(bare) {
-        b.change(i, i + 1, format!(".{}", quoted(sibling)), found);
-    }
-}
-
-/// A field as antt writes it: in quotation marks, where it has an underscore.
-fn quoted(field: &str) -> String {
-    if field.contains('_') {
-        format!("«{field}»")
-    } else {
-        field.to_string()
+    for sibling in b.names.siblings(field) {
+        b.change(i, i + 1, format!(".{sibling}"), found);
     }
 }
 
@@ -358,15 +348,12 @@ fn filled_fields(b: &Body, i: usize, found: &mut Vec<Change>) {
     if b.word(i + 1) != "=" || !["{", ";"].contains(&b.before(i)) {
         return;
     }
-    let bare = |w: &str| w.trim_start_matches('«').trim_end_matches('»').to_string();
     let end = field_end(b, i + 2);
     let mut next = end + 1;
     while b.word(next + 1) == "=" {
         let next_end = field_end(b, next + 2);
-        if b.names
-            .siblings(&bare(b.word(i)))
-            .contains(&bare(b.word(next)))
-        {
+        let siblings = b.names.siblings(b.word(i));
+        if siblings.iter().any(|sibling| sibling == b.word(next)) {
             let (first, second) = (b.source(i + 2, end), b.source(next + 2, next_end));
             let between = b.source(end, next + 2);
             b.change(i + 2, next_end, format!("{second}{between} {first}"), found);
@@ -437,12 +424,13 @@ mod tests {
 
     #[test]
     fn fields() {
-        makes("g (s .u) (s .«v_w»)", "g (s .«v_w») (s .«v_w»)");
+        makes("g s.u s.v_w", "g s.v_w s.v_w");
+        makes("leb (h s).u a.v_w", "leb a.v_w (h s).u");
         makes(
-            "record { u = h (1); «v_w» = k; }",
-            "record { u = k; «v_w» = h (1); }",
+            "record { u = h (1); v_w = k; }",
+            "record { u = k; v_w = h (1); }",
         );
-        makes("(p .0)", "(p .1)");
+        makes("p.0", "p.1");
     }
 
     #[test]

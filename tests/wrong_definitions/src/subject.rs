@@ -57,11 +57,9 @@ impl Subject {
         format!("{}/src/lib.rt", self.name())
     }
 
-    /// A module of the specs of a crate, by the name that it has in the crate that is checked.
+    /// A module of the specs of a crate.
     pub fn module(self, of: &str, module: &str) -> String {
-        let own = of == self.name();
-        let specs = if own { "·specs.specs" } else { ".specs" };
-        format!("Rattle·{of}{specs}.{module}")
+        format!("Rattle.{of}.specs.{module}")
     }
 }
 
@@ -82,9 +80,10 @@ mod tests {
     }
 
     #[test]
-    fn modules_within_the_crate_and_of_a_crate_below() {
-        let name = |subject: Subject| subject.module("model", "Numbers");
-        assert_eq!(name(Subject::Model), "Rattle·model·specs.specs.Numbers");
-        assert_eq!(name(Subject::Wiegand), "Rattle·model.specs.Numbers");
+    fn modules_have_one_name_within_the_crate_and_above() {
+        for subject in Subject::ALL {
+            let name = subject.module("model", "Numbers");
+            assert_eq!(name, "Rattle.model.specs.Numbers");
+        }
     }
 }
