@@ -7,7 +7,7 @@ use Rattle.octets.specs.Octets.{field}
 use Rattle.model.specs.Words.{zeros}
 use Rattle.model.specs.Calls.{RunResult}
 use Rattle.cases.proofs.Change.{Field, with_fields}
-use Rattle.cases.proofs.Fields.{flags, mode, factors_wanted, first_rights, days_given, absentee, days, last_use, last_grant_law}
+use Rattle.cases.proofs.Fields.{flags, mode, factors_wanted, first_rights, days_given, absentee, days, last_use, last_grant_field}
 use Rattle.cases.proofs.Bytes.{rule, at, entry, shows, types, site, state, from_state, from_new, told, bytes}
 use Rattle.cases.proofs.Rules.{on}
 
@@ -98,13 +98,13 @@ dates =
 pub record Held : Type 0 where
   -- "older states' zeros are time 0": no day on day 0, one on day 1, and on day 1 after day 0.
   older :
-      returns [] (last_grant_law 0 ∷ []) (at 0 10 0 0 ∷ []) ++ returns [] (last_grant_law 0 ∷ []) (at 1 10 0 0 ∷ [])
-      ++ returns [] (last_grant_law 0 ∷ []) (at 0 10 0 0 ∷ at 1 10 0 0 ∷ [])
+      returns [] (last_grant_field 0 ∷ []) (at 0 10 0 0 ∷ []) ++ returns [] (last_grant_field 0 ∷ []) (at 1 10 0 0 ∷ [])
+      ++ returns [] (last_grant_field 0 ∷ []) (at 0 10 0 0 ∷ at 1 10 0 0 ∷ [])
       ≡ 1 ∷ 8 ∷ at 0 10 0 0 ∷ 1 ∷ 7 ∷ at 1 10 0 0 ∷ 1 ∷ 1 ∷ 7 ∷ at 1 10 0 0 ∷ []
   -- Never is "no earlier grant": a day on day 0 too.
-  no_grant : returns [] (last_grant_law 4294967295 ∷ []) (at 0 10 0 0 ∷ []) ≡ 1 ∷ 7 ∷ at 0 10 0 0 ∷ []
+  no_grant : returns [] (last_grant_field 4294967295 ∷ []) (at 0 10 0 0 ∷ []) ≡ 1 ∷ 7 ∷ at 0 10 0 0 ∷ []
   -- Last grant on a later date, by its last second.
-  ahead : returns [] (last_grant_law 4294967294 ∷ []) (at 1 10 0 0 ∷ []) ≡ 1 ∷ 8 ∷ at 1 10 0 0 ∷ []
+  ahead : returns [] (last_grant_field 4294967294 ∷ []) (at 1 10 0 0 ∷ []) ≡ 1 ∷ 8 ∷ at 1 10 0 0 ∷ []
   -- The last day left, with a last grant on the same date, is kept.
   last_day : returns [] (days 1 ∷ []) (at 0 10 0 0 ∷ at 0 11 0 0 ∷ at 1 10 0 0 ∷ at 1 11 0 0 ∷ []) ≡ 1 ∷ 1 ∷ 1 ∷ 155 ∷ 0 ∷ at 1 10 0 0 ∷ []
   -- "Last use keeps its meaning for inactivity": two days absent are allowed. Granted, three days later; with a denial between.
@@ -113,7 +113,7 @@ pub record Held : Type 0 where
       ++ returns (absentee 2 ∷ []) (last_use 4294967295 ∷ []) (at 0 10 0 0 ∷ at 2 8 0 0 ∷ at 3 10 0 0 ∷ [])
       ≡ 1 ∷ 157 ∷ 8 ∷ at 0 10 0 0 ∷ 1 ∷ 136 ∷ 1 ∷ 7 ∷ at 3 10 0 0 ∷ []
   -- A last grant is no use: granted an hour ago, used three days ago.
-  no_use : returns (absentee 2 ∷ []) (last_use 0 ∷ last_grant_law (at 3 9 0 0) ∷ []) (at 3 10 0 0 ∷ []) ≡ 157 ∷ 8 ∷ at 3 9 0 0 ∷ []
+  no_use : returns (absentee 2 ∷ []) (last_use 0 ∷ last_grant_field (at 3 9 0 0) ∷ []) (at 3 10 0 0 ∷ []) ≡ 157 ∷ 8 ∷ at 3 9 0 0 ∷ []
 
 pub held : Held
 unfolding bytes hall left returns

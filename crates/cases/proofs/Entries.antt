@@ -14,7 +14,7 @@ use Rattle.model.proofs.Parts.{part, nothing, parts}
 use Rattle.cases.proofs.Change.{Field, with_fields}
 use Rattle.cases.proofs.Records.{entry_with, tables}
 use Rattle.cases.proofs.Lookups.{offsets}
-use Rattle.cases.proofs.SiteCheck.{zone_at, point_at, credential_at_law, records_at}
+use Rattle.cases.proofs.SiteCheck.{zone_at, point_at, credential_with, records_at}
 
 -- ── fields
 
@@ -51,7 +51,7 @@ answer_written = refl
 -- ── zone 1, point 2, credential 3: the byte of the refusal in the answer to an entry from fresh
 
 unfoldable pub three_objects : List ℕ
-three_objects = flatten (zone_at 1 ∷ point_at 2 1 4194303 ∷ credential_at_law 3 ∷ [])
+three_objects = flatten (zone_at 1 ∷ point_at 2 1 4194303 ∷ credential_with 3 ∷ [])
 
 unfoldable pub answer_to : List ℕ → List ℕ
 answer_to entry = (run_journal three_objects (fresh_state three_objects (replicate 96 0)).state entry (replicate 16 7)).answers

@@ -3,7 +3,7 @@ use Prim.Native.Nat.{ℕ}
 use mathlib.Core.Path.{◌≡◌, refl}
 use mathlib.Core.List.{List, [], ◌∷◌, ◌++◌}
 use Rattle.cases.proofs.Change.{Field, with_fields}
-use Rattle.cases.proofs.Fields.{instance, flags, passback, upper, lower, passback_timeout, mode, factors_wanted, threat, factor_timeout, activation, expiry, absentee, first_rights, factor_disable_law, value, lock_time, waiting_for, waiting_since, uses, days, in_zone, entered, disabled}
+use Rattle.cases.proofs.Fields.{instance, flags, passback, upper, lower, passback_timeout, mode, factors_wanted, threat, factor_timeout, activation, expiry, absentee, first_rights, factor_disable_field, value, lock_time, waiting_for, waiting_since, uses, days, in_zone, entered, disabled}
 use Rattle.cases.proofs.Bytes.{door, hall, rule, person, card, pin, counted, shows, types, errs, site, state, passing, from_state, from_new, answered, told, worked, bytes}
 
 -- Point 2 wants two factors within 30 seconds. It waits for credential 5 since 1000, or for nobody.
@@ -18,7 +18,7 @@ idle = state (waiting_since 1000 ∷ []) []
 
 -- The same with disabled factors.
 unfoldable pub two_disabled : List (List ℕ)
-two_disabled = site (factors_wanted 2 ∷ factor_timeout 30 ∷ []) (expiry 0 ∷ []) (factor_disable_law 1 ∷ [])
+two_disabled = site (factors_wanted 2 ∷ factor_timeout 30 ∷ []) (expiry 0 ∷ []) (factor_disable_field 1 ∷ [])
 
 -- Zones whose bytes are those of factors but for the kind: of a confirming factor of credential 5, and of an identifying factor. Credential 6
 -- has a pin of its own.
@@ -123,9 +123,9 @@ pub record Step3 : Type 0 where
   disables :
       answered
       (from_new
-      (door ∷ person ∷ with_fields (value 1 ∷ factor_disable_law 1 ∷ []) card ∷ with_fields (value 2 ∷ factor_disable_law 2 ∷ []) card
-      ∷ with_fields (value 3 ∷ factor_disable_law 3 ∷ []) card ∷ with_fields (value 4 ∷ factor_disable_law 4 ∷ []) card
-      ∷ with_fields (value 5 ∷ factor_disable_law 5 ∷ []) card ∷ [])
+      (door ∷ person ∷ with_fields (value 1 ∷ factor_disable_field 1 ∷ []) card ∷ with_fields (value 2 ∷ factor_disable_field 2 ∷ []) card
+      ∷ with_fields (value 3 ∷ factor_disable_field 3 ∷ []) card ∷ with_fields (value 4 ∷ factor_disable_field 4 ∷ []) card
+      ∷ with_fields (value 5 ∷ factor_disable_field 5 ∷ []) card ∷ [])
       (shows 0 1 ∷ shows 0 2 ∷ shows 0 3 ∷ shows 0 4 ∷ shows 0 5 ∷ []))
       ≡ 0x0093_01_00_00000001_00000005_00000000 ∷ 0x008F_01_00_00000002_00000005_00000000 ∷ 0x0090_01_00_00000003_00000005_00000000
       ∷ 0x0091_01_00_00000004_00000005_00000000 ∷ 0x0092_01_00_00000005_00000005_00000000 ∷ []
@@ -192,10 +192,10 @@ confirmed_through hs ys ds =
 pub record Ended : Type 0 where
   -- The pin and then the card are disabled alike.
   disabled_factors :
-      confirmed (site (factors_wanted 2 ∷ []) [] (factor_disable_law 2 ∷ [])) waits
-      ++ confirmed (site (factors_wanted 2 ∷ []) [] (factor_disable_law 3 ∷ [])) waits
-      ++ confirmed (site (factors_wanted 2 ∷ []) [] (factor_disable_law 4 ∷ [])) waits
-      ++ confirmed (site (factors_wanted 2 ∷ []) [] (factor_disable_law 5 ∷ [])) waits
+      confirmed (site (factors_wanted 2 ∷ []) [] (factor_disable_field 2 ∷ [])) waits
+      ++ confirmed (site (factors_wanted 2 ∷ []) [] (factor_disable_field 3 ∷ [])) waits
+      ++ confirmed (site (factors_wanted 2 ∷ []) [] (factor_disable_field 4 ∷ [])) waits
+      ++ confirmed (site (factors_wanted 2 ∷ []) [] (factor_disable_field 5 ∷ [])) waits
       ≡ 143 ∷ 143 ∷ 144 ∷ 144 ∷ 145 ∷ 145 ∷ 146 ∷ 146 ∷ []
   -- On the denials of step 5, of steps 7 to 9 and of step 10.
   step_5 :

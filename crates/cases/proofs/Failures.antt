@@ -5,7 +5,7 @@ use Prim.Native.Nat.{ℕ}
 use mathlib.Core.Path.{◌≡◌, refl}
 use mathlib.Core.List.{List, [], ◌∷◌, ◌++◌}
 use Rattle.cases.proofs.Change.{Field}
-use Rattle.cases.proofs.Fields.{flags, mode, factors_wanted, factor_timeout, most, window, factor_disable_law, failures, waiting_for, waiting_since, disabled}
+use Rattle.cases.proofs.Fields.{flags, mode, factors_wanted, factor_timeout, most, window, factor_disable_field, failures, waiting_for, waiting_since, disabled}
 use Rattle.cases.proofs.Bytes.{shows, types, errs, site, state, from_state, worked, bytes}
 
 -- An unknown card at a time, where point 2 locks at the third failure, has failures since 900, and other fields are changed.
@@ -108,7 +108,7 @@ pub record Failing : Type 0 where
       ∷ 0x0009_0008_000003EB_003FFFFF_00000258_0084_00_00_00000002_0000028A_00000000 ∷ 0 ∷ 0 ∷ []
   -- A disabled factor is none: failures and first failure stay.
   disabled_factor_law :
-      third (factor_disable_law 1 ∷ []) (types 1030 0x66)
+      third (factor_disable_field 1 ∷ []) (types 1030 0x66)
       ≡ 0x0093_03_00_0000000B_00000005_00000000 ∷ 0x0000000B_02_00_0000_000003E8_00000384_003FFFFF_000003E8_0000000000000000
       ∷ 0x0009_0008_00000406_003FFFFF_00000258_0093_00_00_00000002_0000028A_00000000 ∷ 0 ∷ 0 ∷ []
   -- Nor are 128, 158 and the wait.

@@ -30,11 +30,11 @@ mode v = (2, 1, v)
 abbrev pub factors_wanted : ℕ → Field
 factors_wanted v = (3, 1, v)
 
-abbrev pub zone_to_law : ℕ → Field
-zone_to_law v = (8, 4, v)
+abbrev pub zone_to_field : ℕ → Field
+zone_to_field v = (8, 4, v)
 
-abbrev pub zone_from_law : ℕ → Field
-zone_from_law v = (12, 4, v)
+abbrev pub zone_from_field : ℕ → Field
+zone_from_field v = (12, 4, v)
 
 abbrev pub threat : ℕ → Field
 threat v = (16, 1, v)
@@ -52,8 +52,8 @@ abbrev pub window : ℕ → Field
 window v = (24, 4, v)
 
 -- Rule: "2: location kind .. 3: days .. 8 location .. 12 from, 14 to".
-abbrev pub location_kind_law : ℕ → Field
-location_kind_law v = (2, 1, v)
+abbrev pub location_kind_field : ℕ → Field
+location_kind_field v = (2, 1, v)
 
 abbrev pub weekdays : ℕ → Field
 weekdays v = (3, 1, v)
@@ -61,11 +61,11 @@ weekdays v = (3, 1, v)
 abbrev pub location : ℕ → Field
 location v = (8, 4, v)
 
-abbrev pub from_minute_law : ℕ → Field
-from_minute_law v = (12, 2, v)
+abbrev pub from_minute_field : ℕ → Field
+from_minute_field v = (12, 2, v)
 
-abbrev pub to_minute_law : ℕ → Field
-to_minute_law v = (14, 2, v)
+abbrev pub to_minute_field : ℕ → Field
+to_minute_field v = (14, 2, v)
 
 -- Credential: "2: disable .. 3: threat authority .. 8 activation, 12 expiry .. 16 uses, 18 days, 20 absentee days .. 24 and 28 rights numbers"; document 02,
 -- job 4: "Credential offset 22 (1 byte, 0 unset) is the most wrong tries".
@@ -90,8 +90,8 @@ days_given v = (18, 2, v)
 abbrev pub absentee : ℕ → Field
 absentee v = (20, 2, v)
 
-abbrev pub most_tries_law : ℕ → Field
-most_tries_law v = (22, 1, v)
+abbrev pub most_tries_field : ℕ → Field
+most_tries_field v = (22, 1, v)
 
 abbrev pub first_rights : ℕ → Field
 first_rights v = (24, 4, v)
@@ -100,8 +100,8 @@ abbrev pub second_rights : ℕ → Field
 second_rights v = (28, 4, v)
 
 -- Factor: "3: disable .. 16 value".
-abbrev pub factor_disable_law : ℕ → Field
-factor_disable_law v = (3, 1, v)
+abbrev pub factor_disable_field : ℕ → Field
+factor_disable_field v = (3, 1, v)
 
 abbrev pub value : ℕ → Field
 value v = (16, 8, v)
@@ -151,5 +151,5 @@ tries v = (19, 1, v)
 abbrev pub last_point : ℕ → Field
 last_point v = (20, 4, v)
 
-abbrev pub last_grant_law : ℕ → Field
-last_grant_law v = (24, 4, v)
+abbrev pub last_grant_field : ℕ → Field
+last_grant_field v = (24, 4, v)

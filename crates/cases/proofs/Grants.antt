@@ -3,7 +3,7 @@ use Prim.Native.Nat.{ℕ}
 use mathlib.Core.Path.{◌≡◌, refl}
 use mathlib.Core.List.{List, [], ◌∷◌, ◌++◌}
 use Rattle.cases.proofs.Change.{Field}
-use Rattle.cases.proofs.Fields.{flags, passback, mode, factors_wanted, zone_to_law, zone_from_law, most, failures, uses, days, last_use, in_zone, disabled, last_grant_law}
+use Rattle.cases.proofs.Fields.{flags, passback, mode, factors_wanted, zone_to_field, zone_from_field, most, failures, uses, days, last_use, in_zone, disabled, last_grant_field}
 use Rattle.cases.proofs.Bytes.{shows, site, state, passing, inside, from_state, answered, worked, bytes}
 
 -- Point 2 from zone 8 into zone 7 with count adjust, and other flags; 5 in zone 7, 3 in zone 8, credential 5 in zone 8.
@@ -64,7 +64,7 @@ pub record Counts : Type 0 where
       ∷ 0x0008_0008_000007D0_00000007_000007D0_0001_00_00_00000002_000007D0_00000000 ∷ 0 ∷ 0 ∷ []
   -- "else NONE if there is a Zone_From": entered stays; the answer's count is 0.
   out :
-      worked (from_state (through [] [] (zone_to_law 4194303 ∷ [])) before (shows 2000 0x55 ∷ []))
+      worked (from_state (through [] [] (zone_to_field 4194303 ∷ [])) before (shows 2000 0x55 ∷ []))
       ≡ 0x0001_01_00_0000000B_00000005_00000000
       ∷ 0x00000005_00000000000000000000000000000000000000000000000000000000
       ∷ 0x00000002_00000000000000000000000000000000000000000000000000000000
@@ -72,7 +72,7 @@ pub record Counts : Type 0 where
       ∷ 0x0008_0008_000007D0_003FFFFF_000003E8_0001_00_00_00000002_000007D0_00000000 ∷ 0 ∷ 0 ∷ []
   -- "else stays".
   nowhere :
-      worked (from_state (through [] [] (zone_to_law 4194303 ∷ zone_from_law 4194303 ∷ [])) before (shows 2000 0x55 ∷ []))
+      worked (from_state (through [] [] (zone_to_field 4194303 ∷ zone_from_field 4194303 ∷ [])) before (shows 2000 0x55 ∷ []))
       ≡ 0x0001_01_00_0000000B_00000005_00000000
       ∷ 0x00000005_00000000000000000000000000000000000000000000000000000000
       ∷ 0x00000003_00000000000000000000000000000000000000000000000000000000
@@ -80,7 +80,7 @@ pub record Counts : Type 0 where
       ∷ 0x0008_0008_000007D0_00000008_000003E8_0001_00_00_00000002_000007D0_00000000 ∷ 0 ∷ 0 ∷ []
   -- A Zone_To alone.
   into :
-      worked (from_state (through [] [] (zone_from_law 4194303 ∷ [])) before (shows 2000 0x55 ∷ []))
+      worked (from_state (through [] [] (zone_from_field 4194303 ∷ [])) before (shows 2000 0x55 ∷ []))
       ≡ 0x0001_01_00_0000000B_00000005_00000006
       ∷ 0x00000006_00000000000000000000000000000000000000000000000000000000
       ∷ 0x00000003_00000000000000000000000000000000000000000000000000000000
@@ -135,13 +135,13 @@ pub record Used : Type 0 where
       ++ (0x0008_0007_00015180_003FFFFF_00000258_0001_00_00_00000002_00015180_00000000 ∷ 0 ∷ 0 ∷ [])
   -- "if the card has no earlier grant": on any day; the last of the days; unlimited ones stay.
   never_granted :
-      after (last_grant_law 0xFFFFFFFF ∷ []) 100 ++ after (last_grant_law 0xFFFFFFFF ∷ days 1 ∷ []) 100 ++ after (last_grant_law 0xFFFFFFFF ∷ days 65535 ∷ []) 100
+      after (last_grant_field 0xFFFFFFFF ∷ []) 100 ++ after (last_grant_field 0xFFFFFFFF ∷ days 1 ∷ []) 100 ++ after (last_grant_field 0xFFFFFFFF ∷ days 65535 ∷ []) 100
       ≡ granted ++ (0x0008_0007_00000064_003FFFFF_00000258_0001_00_00_00000002_00000064_00000000 ∷ 0 ∷ 0 ∷ granted)
       ++ (0x0008_0000_00000064_003FFFFF_00000258_0001_00_00_00000002_00000064_00000000 ∷ 0 ∷ 0 ∷ granted)
       ++ (0x0008_FFFF_00000064_003FFFFF_00000258_0001_00_00_00000002_00000064_00000000 ∷ 0 ∷ 0 ∷ [])
   -- A clock set back over midnight; the second day, where the zone was entered on the first; days on the next day, limited and unlimited.
   other_days :
-      after (last_grant_law 86400 ∷ []) 86399 ++ after (last_grant_law 86400 ∷ []) 86401 ++ after (days 65534 ∷ []) 86400 ++ after (days 65535 ∷ []) 86400
+      after (last_grant_field 86400 ∷ []) 86399 ++ after (last_grant_field 86400 ∷ []) 86401 ++ after (days 65534 ∷ []) 86400 ++ after (days 65535 ∷ []) 86400
       ≡ granted ++ (0x0008_0008_0001517F_003FFFFF_00000258_0001_00_00_00000002_0001517F_00000000 ∷ 0 ∷ 0 ∷ granted)
       ++ (0x0008_0008_00015181_003FFFFF_00000258_0001_00_00_00000002_00015181_00000000 ∷ 0 ∷ 0 ∷ granted)
       ++ (0x0008_FFFD_00015180_003FFFFF_00000258_0001_00_00_00000002_00015180_00000000 ∷ 0 ∷ 0 ∷ granted)

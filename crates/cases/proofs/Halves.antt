@@ -16,7 +16,7 @@ use Rattle.model.specs.Demands.{returns_other}
 use Rattle.model.specs.declared.Returned.TheVariants.{WorkedThrough, SiteLength, SiteField, SiteTwice, SiteMissing, StateLength, StateForm, JournalLength, AnswersLength}
 use Rattle.model.proofs.Build.{history, cut, examples}
 use Rattle.cases.proofs.Change.{with_fields}
-use Rattle.cases.proofs.Fields.{mode, weekdays, from_minute_law, to_minute_law, first_rights}
+use Rattle.cases.proofs.Fields.{mode, weekdays, from_minute_field, to_minute_field, first_rights}
 use Rattle.cases.proofs.Bytes.{door, rule, person, card, pin, shows, site, bytes}
 
 -- One name that opens the definitions of Shifts.
@@ -42,7 +42,7 @@ pub record Written : Type 0 where
   second : since_midnight night ≡ saturday
   -- "a rule with from > to": the shift alone, not its halves, a rule of from = to, or a record of another kind.
   crossing :
-      map is_shift (night ∷ friday ∷ saturday ∷ with_fields (to_minute_law 1320 ∷ []) night ∷ put 0 1 4 night ∷ [])
+      map is_shift (night ∷ friday ∷ saturday ∷ with_fields (to_minute_field 1320 ∷ []) night ∷ put 0 1 4 night ∷ [])
       ≡ true ∷ false ∷ false ∷ false ∷ false ∷ []
 
 pub written : Written
@@ -58,9 +58,9 @@ halves_at time s = in_range s ∷ is_shift s ∷ time_fits time s ∷ (time_fits
 pub record Unmet : Type 0 where
   -- A spare bit of the days, on Tuesday at 0:00; from 1,441, on Saturday at noon.
   spare_day : halves_at 86400 (with_fields (weekdays 0x80 ∷ []) night) ≡ false ∷ true ∷ false ∷ true ∷ []
-  past_end : halves_at 475200 (with_fields (from_minute_law 1441 ∷ []) night) ≡ false ∷ true ∷ false ∷ true ∷ []
+  past_end : halves_at 475200 (with_fields (from_minute_field 1441 ∷ []) night) ≡ false ∷ true ∷ false ∷ true ∷ []
   -- From 9:00 to 17:00, on Friday at 20:00.
-  within_day : halves_at 417600 (with_fields (from_minute_law 540 ∷ to_minute_law 1020 ∷ []) night) ≡ true ∷ false ∷ false ∷ true ∷ []
+  within_day : halves_at 417600 (with_fields (from_minute_field 540 ∷ to_minute_field 1020 ∷ []) night) ≡ true ∷ false ∷ false ∷ true ∷ []
 
 pub unmet : Unmet
 unfolding shifts night
@@ -137,7 +137,7 @@ marked h = put 0 1 1 (blank h)
 
 -- From 1,441.
 abbrev unbounded : List ℕ
-unbounded = with_fields (from_minute_law 1441 ∷ []) night
+unbounded = with_fields (from_minute_field 1441 ∷ []) night
 
 pub record Differing : Type 0 where
   rewritten_events : events one_rule ++ events two_rules ≡ 136 ∷ 1 ∷ 1 ∷ 1 ∷ 136 ∷ 136 ∷ 1 ∷ 1 ∷ 1 ∷ 136 ∷ []

@@ -11,7 +11,7 @@ use Rattle.model.specs.State.{credential_state_of}
 use Rattle.model.specs.Entry.{entry_of}
 use Rattle.model.specs.InPlace.{part_of}
 use Rattle.cases.proofs.Change.{Field}
-use Rattle.cases.proofs.Fields.{instance, flags, location, location_kind_law, weekdays, to_minute_law}
+use Rattle.cases.proofs.Fields.{instance, flags, location, location_kind_field, weekdays, to_minute_field}
 use Rattle.cases.proofs.Bytes.{bytes}
 use Rattle.cases.proofs.Rules.{ruled, under}
 
@@ -106,10 +106,10 @@ abbrev disabled : List Field
 disabled = flags 4 ∷ []
 
 abbrev elsewhere : List Field
-elsewhere = location_kind_law 1 ∷ location 8 ∷ []
+elsewhere = location_kind_field 1 ∷ location 8 ∷ []
 
 abbrev never : List Field
-never = flags 1 ∷ weekdays 0 ∷ to_minute_law 1440 ∷ []
+never = flags 1 ∷ weekdays 0 ∷ to_minute_field 1440 ∷ []
 
 -- A negative rule that fits always.
 abbrev barred : List Field

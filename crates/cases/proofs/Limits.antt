@@ -3,7 +3,7 @@ use Prim.Native.Nat.{ℕ}
 use mathlib.Core.Path.{◌≡◌, refl}
 use mathlib.Core.List.{List, [], ◌∷◌, ◌++◌}
 use Rattle.cases.proofs.Change.{Field}
-use Rattle.cases.proofs.Fields.{flags, passback, upper, lower, passback_timeout, mode, zone_to_law, zone_from_law, threat, in_zone, entered, disabled}
+use Rattle.cases.proofs.Fields.{flags, passback, upper, lower, passback_timeout, mode, zone_to_field, zone_from_field, threat, in_zone, entered, disabled}
 use Rattle.cases.proofs.Bytes.{shows, passing, inside, from_state, answered, told, worked, bytes}
 
 -- ── passback
@@ -51,14 +51,14 @@ pub record Passback : Type 0 where
   -- "Zone_To is .. the credential's zone": it is in zone 8, in none; in zone 7 and goes into zone 8.
   elsewhere :
       again (passback 1 ∷ []) [] (in_zone 8 ∷ []) 1001 ++ again (passback 1 ∷ []) [] (in_zone 4194303 ∷ []) 1001
-      ++ answered (from_state (passing [] (passback 1 ∷ []) (zone_to_law 8 ∷ zone_from_law 7 ∷ []) []) (inside 0 0 []) (shows 1001 0x55 ∷ []))
+      ++ answered (from_state (passing [] (passback 1 ∷ []) (zone_to_field 8 ∷ zone_from_field 7 ∷ []) []) (inside 0 0 []) (shows 1001 0x55 ∷ []))
       ≡ granted ++ granted ++ granted
   -- A zone that does not count; Zone_From's passback; no Zone_To and no zone.
   other_zones :
       again (flags 0 ∷ passback 1 ∷ []) [] [] 1001
       ++ answered (from_state (passing [] (passback 1 ∷ []) [] []) (inside 0 0 []) (shows 1001 0x55 ∷ []))
       ++ answered
-      (from_state (passing (passback 1 ∷ []) (passback 1 ∷ []) (zone_to_law 4194303 ∷ []) []) (inside 0 0 (in_zone 4194303 ∷ []))
+      (from_state (passing (passback 1 ∷ []) (passback 1 ∷ []) (zone_to_field 4194303 ∷ []) []) (inside 0 0 (in_zone 4194303 ∷ []))
       (shows 1001 0x55 ∷ []))
       ≡ denied ++ granted ++ granted
   -- 133 before 138. "soft mark 4" where the checks came to it: not before 158, 128, 137 and 133, nor for masters.
@@ -105,7 +105,7 @@ pub record Limits : Type 0 where
       full 9 2 [] (lower 3 ∷ []) (flags 4 ∷ []) (flags 4 ∷ []) ++ full 9 2 [] (lower 3 ∷ []) (flags 4 ∷ []) (flags 0x1A ∷ [])
       ++ full 9 2 [] (lower 3 ∷ []) (flags 0x1A ∷ []) [] ++ full 9 2 [] (flags 0 ∷ lower 3 ∷ []) (flags 4 ∷ []) []
       ++ full 9 0 [] [] (flags 4 ∷ []) [] ++ full 2 2 (lower 3 ∷ []) (upper 3 ∷ []) (flags 4 ∷ []) []
-      ++ full 2 2 [] (lower 3 ∷ []) (flags 4 ∷ zone_from_law 4194303 ∷ []) []
+      ++ full 2 2 [] (lower 3 ∷ []) (flags 4 ∷ zone_from_field 4194303 ∷ []) []
       ≡ 1 ∷ 141 ∷ 1 ∷ 1 ∷ 1 ∷ 1 ∷ 1 ∷ []
   -- "then upper likewise for Zone_To, count ≥ upper: 142".
   highest :
@@ -116,7 +116,7 @@ pub record Limits : Type 0 where
       full 3 9 (upper 3 ∷ []) [] (flags 2 ∷ []) (flags 4 ∷ []) ++ full 3 9 (upper 3 ∷ []) [] (flags 2 ∷ []) (flags 0x1A ∷ [])
       ++ full 3 9 (upper 3 ∷ []) [] (flags 0x1C ∷ []) [] ++ full 3 9 (flags 0 ∷ upper 3 ∷ []) [] (flags 2 ∷ []) []
       ++ full 0 9 [] [] (flags 2 ∷ []) [] ++ full 9 9 (lower 3 ∷ []) (upper 3 ∷ []) (flags 2 ∷ []) []
-      ++ full 9 9 (upper 3 ∷ []) [] (flags 2 ∷ zone_to_law 4194303 ∷ []) []
+      ++ full 9 9 (upper 3 ∷ []) [] (flags 2 ∷ zone_to_field 4194303 ∷ []) []
       ≡ 1 ∷ 142 ∷ 1 ∷ 1 ∷ 1 ∷ 1 ∷ 1 ∷ []
   -- 133 before both, 141 before 142, 142 before 164; 138 before each.
   order :
@@ -134,7 +134,7 @@ pub record Limits : Type 0 where
   -- No count adjust; a zone that does not count; the count of Zone_From; no Zone_To.
   largest_unless :
       full 0xFFFFFFFF 9 [] [] (flags 0x16 ∷ []) [] ++ full 0xFFFFFFFF 9 (flags 0 ∷ []) [] (flags 8 ∷ []) []
-      ++ full 9 0xFFFFFFFF [] [] (flags 8 ∷ []) [] ++ full 0xFFFFFFFF 9 [] [] (flags 8 ∷ zone_to_law 4194303 ∷ []) []
+      ++ full 9 0xFFFFFFFF [] [] (flags 8 ∷ []) [] ++ full 0xFFFFFFFF 9 [] [] (flags 8 ∷ zone_to_field 4194303 ∷ []) []
       ≡ 1 ∷ 1 ∷ 1 ∷ 1 ∷ []
   -- "Marks once set stay": mark 4 on 141, 142 and 164; counts, zone and entered stay.
   marked :

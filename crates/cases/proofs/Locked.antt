@@ -2,7 +2,7 @@
 use Prim.Native.Nat.{ℕ}
 use mathlib.Core.Path.{◌≡◌, refl}
 use mathlib.Core.List.{List, [], ◌∷◌}
-use Rattle.cases.proofs.Fields.{flags, mode, factors_wanted, most, relinquish, expiry, factor_disable_law, failures, locked, disabled}
+use Rattle.cases.proofs.Fields.{flags, mode, factors_wanted, most, relinquish, expiry, factor_disable_field, failures, locked, disabled}
 use Rattle.cases.proofs.Bytes.{shows, errs, site, state, from_state, answered, told, worked, bytes}
 
 -- Point 2 locks at the third failure and relinquishes after 60 seconds. Credential 5 is traced.
@@ -62,7 +62,7 @@ pub record Locked : Type 0 where
   -- "The first step that gives an event ends the checks": 161 before 148, 129, 147, event 0, 152 and 128.
   first_of_all :
       told
-      (from_state (site (mode 2 ∷ factors_wanted 2 ∷ most 3 ∷ []) (expiry 0 ∷ []) (factor_disable_law 1 ∷ [])) shut
+      (from_state (site (mode 2 ∷ factors_wanted 2 ∷ most 3 ∷ []) (expiry 0 ∷ []) (factor_disable_field 1 ∷ [])) shut
       (errs 1060 0 ∷ shows 1060 0x77 ∷ shows 1060 0x55 ∷ []))
       ≡ 161 ∷ 161 ∷ 161 ∷ []
 

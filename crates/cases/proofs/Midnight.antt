@@ -4,7 +4,7 @@ use Prim.Native.Nat.{ℕ}
 use mathlib.Core.Path.{◌≡◌, refl}
 use mathlib.Core.List.{List, [], ◌∷◌, ◌++◌, map}
 use Rattle.cases.proofs.Change.{Field}
-use Rattle.cases.proofs.Fields.{flags, location_kind_law, weekdays, location, from_minute_law, to_minute_law}
+use Rattle.cases.proofs.Fields.{flags, location_kind_field, weekdays, location, from_minute_field, to_minute_field}
 use Rattle.cases.proofs.Bytes.{at, bytes}
 use Rattle.cases.proofs.Rules.{ruled, during, on}
 
@@ -62,7 +62,7 @@ shifts =
 
 -- A negative rule: the shift's; and beside a positive rule that fits always.
 abbrev forbidding : ℕ → List Field
-forbidding days = flags 3 ∷ weekdays days ∷ from_minute_law 1320 ∷ to_minute_law 360 ∷ []
+forbidding days = flags 3 ∷ weekdays days ∷ from_minute_field 1320 ∷ to_minute_field 360 ∷ []
 
 pub record Negatives : Type 0 where
   -- "negative rules included": denied in both halves, and not between them.
@@ -107,13 +107,13 @@ pub record Edges : Type 0 where
   -- No day is set.
   no_day : within 0x00 1320 360 minutes ≡ never
   -- "Time fits if always", whatever the window; a rule that is disabled or elsewhere does not fit: 133.
-  always : during ((flags 5 ∷ weekdays 0 ∷ from_minute_law 1320 ∷ to_minute_law 360 ∷ []) ∷ []) (at 4 12 0 0 ∷ at 5 0 0 0 ∷ []) ≡ 1 ∷ 1 ∷ []
-  disabled : during ((flags 0 ∷ weekdays 0x10 ∷ from_minute_law 1320 ∷ to_minute_law 360 ∷ []) ∷ []) (at 4 22 0 0 ∷ at 5 0 0 0 ∷ []) ≡ 133 ∷ 133 ∷ []
-  elsewhere : during ((location_kind_law 1 ∷ location 8 ∷ shift 0x10) ∷ []) (at 4 22 0 0 ∷ at 5 0 0 0 ∷ []) ≡ 133 ∷ 133 ∷ []
+  always : during ((flags 5 ∷ weekdays 0 ∷ from_minute_field 1320 ∷ to_minute_field 360 ∷ []) ∷ []) (at 4 12 0 0 ∷ at 5 0 0 0 ∷ []) ≡ 1 ∷ 1 ∷ []
+  disabled : during ((flags 0 ∷ weekdays 0x10 ∷ from_minute_field 1320 ∷ to_minute_field 360 ∷ []) ∷ []) (at 4 22 0 0 ∷ at 5 0 0 0 ∷ []) ≡ 133 ∷ 133 ∷ []
+  elsewhere : during ((location_kind_field 1 ∷ location 8 ∷ shift 0x10) ∷ []) (at 4 22 0 0 ∷ at 5 0 0 0 ∷ []) ≡ 133 ∷ 133 ∷ []
   -- Everywhere, and at the Zone_To.
   everywhere :
-      during ((location_kind_law 0 ∷ location 0 ∷ flags 9 ∷ weekdays 0x10 ∷ from_minute_law 1320 ∷ to_minute_law 360 ∷ []) ∷ []) (at 4 21 59 59 ∷ at 5 5 59 59 ∷ [])
-      ++ during ((location_kind_law 1 ∷ location 7 ∷ shift 0x10) ∷ []) (at 4 21 59 59 ∷ at 5 5 59 59 ∷ [])
+      during ((location_kind_field 0 ∷ location 0 ∷ flags 9 ∷ weekdays 0x10 ∷ from_minute_field 1320 ∷ to_minute_field 360 ∷ []) ∷ []) (at 4 21 59 59 ∷ at 5 5 59 59 ∷ [])
+      ++ during ((location_kind_field 1 ∷ location 7 ∷ shift 0x10) ∷ []) (at 4 21 59 59 ∷ at 5 5 59 59 ∷ [])
       ≡ 136 ∷ 1 ∷ 136 ∷ 1 ∷ []
 
 pub edges : Edges

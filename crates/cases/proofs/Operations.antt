@@ -3,7 +3,7 @@ use Prim.Native.Nat.{ℕ}
 use mathlib.Core.Path.{◌≡◌, refl}
 use mathlib.Core.List.{List, [], ◌∷◌, ◌++◌}
 use Rattle.cases.proofs.Change.{Field}
-use Rattle.cases.proofs.Fields.{flags, most, relinquish, zone_to_law, tag, failures, locked, waiting_for, last_point, in_zone, entered}
+use Rattle.cases.proofs.Fields.{flags, most, relinquish, zone_to_field, tag, failures, locked, waiting_for, last_point, in_zone, entered}
 use Rattle.cases.proofs.Bytes.{counted, entry, state, passing, inside, from_state, answered, worked, bytes}
 
 -- The states of point 2, of credential 5 and of its factors, where nothing wrote them.
@@ -122,7 +122,7 @@ pub record Servicing : Type 0 where
       ++ (0x0000000B_00_00_0000_000003E8_00000384_00000005_00000320_0000000000000000 ∷ people)
   -- "the tag gains 1 modulo 4,294,967,296"; without a Zone_To the count is 0.
   tag_turns :
-      service (zone_to_law 4194303 ∷ []) (tag 0xFFFFFFFF ∷ []) (entry 5 1 2000 2 0 0)
+      service (zone_to_field 4194303 ∷ []) (tag 0xFFFFFFFF ∷ []) (entry 5 1 2000 2 0 0)
       ≡ 0x0007_00_00_00000000_003FFFFF_00000000 ∷ zones
       ++ (0x00000000_00_01_0000_000007D0_00000384_003FFFFF_00000320_0000000000000000 ∷ people)
 

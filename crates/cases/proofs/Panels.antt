@@ -9,16 +9,16 @@ use Rattle.octets.specs.Octets.{put}
 use Rattle.model.specs.State.{Panel, panel, sites, state_of, find, seek, seek_zone, seek_credential, write}
 use Rattle.model.proofs.Open.{definitions}
 use Rattle.cases.proofs.Records.{tables}
-use Rattle.cases.proofs.SiteCheck.{zone_at, credential_at_law, records_at}
+use Rattle.cases.proofs.SiteCheck.{zone_at, credential_with, records_at}
 
 -- Zone 8 twice, credential 8, and a zone and a credential of the number NONE; the state records are short, to be told apart.
 unfoldable pub five_records : List ℕ → List ℕ → Panel
 five_records first none =
-    (credential_at_law 8, 1 ∷ []) ∷ (zone_at 8, first) ∷ (zone_at 4194303, none) ∷ (zone_at 8, 4 ∷ []) ∷ (credential_at_law 4194303, 5 ∷ []) ∷ []
+    (credential_with 8, 1 ∷ []) ∷ (zone_at 8, first) ∷ (zone_at 4194303, none) ∷ (zone_at 8, 4 ∷ []) ∷ (credential_with 4194303, 5 ∷ []) ∷ []
 
 pub found :
     map (λ (k, i). find k i (five_records (2 ∷ []) (3 ∷ []))) ((1, 8) ∷ (4, 8) ∷ (1, 9) ∷ (2, 8) ∷ (1, 4194303) ∷ [])
-    ≡ (zone_at 8, 2 ∷ []) ∷ (credential_at_law 8, 1 ∷ []) ∷ ([], []) ∷ ([], []) ∷ (zone_at 4194303, 3 ∷ []) ∷ []
+    ≡ (zone_at 8, 2 ∷ []) ∷ (credential_with 8, 1 ∷ []) ∷ ([], []) ∷ ([], []) ∷ (zone_at 4194303, 3 ∷ []) ∷ []
 unfolding definitions tables put records_at five_records
 found = refl
 
@@ -26,7 +26,7 @@ pub sought :
     map (λ (k, i). seek k i (five_records (2 ∷ []) (3 ∷ []))) ((1, 8) ∷ (1, 4194303) ∷ (1, 4194302) ∷ [])
     ++ map (λ i. seek_zone record { 0 = i } (five_records (2 ∷ []) (3 ∷ []))) (8 ∷ 4194303 ∷ [])
     ++ map (λ i. seek_credential record { 0 = i } (five_records (2 ∷ []) (3 ∷ []))) (8 ∷ 4194303 ∷ [])
-    ≡ (zone_at 8, 2 ∷ []) ∷ ([], []) ∷ ([], []) ∷ (zone_at 8, 2 ∷ []) ∷ ([], []) ∷ (credential_at_law 8, 1 ∷ []) ∷ ([], []) ∷ []
+    ≡ (zone_at 8, 2 ∷ []) ∷ ([], []) ∷ ([], []) ∷ (zone_at 8, 2 ∷ []) ∷ ([], []) ∷ (credential_with 8, 1 ∷ []) ∷ ([], []) ∷ []
 unfolding definitions tables put records_at five_records
 sought = refl
 

@@ -9,12 +9,12 @@ use Rattle.model.specs.Print.{hex_byte, answers_text, decimal_line, print_journa
 use Rattle.model.proofs.Open.{definitions}
 use Rattle.cases.proofs.Change.{with_fields}
 use Rattle.cases.proofs.Records.{record_of, entry_with, tables}
-use Rattle.cases.proofs.SiteCheck.{zone_at, point_at, credential_at_law, factor_at_law, records_at}
+use Rattle.cases.proofs.SiteCheck.{zone_at, point_at, credential_with, factor_with, records_at}
 
 -- The paper's: "Site: zone 23, counting, upper 1; point 2 into it, flags 10, mode 1, one factor; credentials 5 and 6, each with an identifying
 -- factor; all else zero, unlimited, end of time or NONE. Journal: 5's card at 100, 6's at 160, an unknown card at 220."
 unfoldable pub unlimited_credential : ℕ → List ℕ
-unlimited_credential i = with_fields ((12, 4, 4294967295) ∷ (16, 4, 4294967295) ∷ (20, 2, 65535) ∷ []) (credential_at_law i)
+unlimited_credential i = with_fields ((12, 4, 4294967295) ∷ (16, 4, 4294967295) ∷ (20, 2, 65535) ∷ []) (credential_with i)
 
 unfoldable pub read_at_two : ℕ → ℕ → List ℕ
 read_at_two time value = entry_with ((0, 1, 1) ∷ (1, 1, 2) ∷ (4, 4, time) ∷ (8, 4, 2) ∷ (20, 4, value) ∷ [])
@@ -24,7 +24,7 @@ pub three_lines :
     print_journal
     (flatten
     (with_fields ((1, 1, 1) ∷ (8, 4, 1) ∷ []) (zone_at 23) ∷ with_fields ((1, 1, 10) ∷ (2, 1, 1) ∷ []) (point_at 2 23 4194303)
-    ∷ unlimited_credential 5 ∷ factor_at_law 1 5 55 ∷ unlimited_credential 6 ∷ factor_at_law 1 6 66 ∷ []))
+    ∷ unlimited_credential 5 ∷ factor_with 1 5 55 ∷ unlimited_credential 6 ∷ factor_with 1 6 66 ∷ []))
     (flatten (read_at_two 100 55 ∷ read_at_two 160 66 ∷ read_at_two 220 77 ∷ []))
     ≡ 48 ∷ 48 ∷ 48 ∷ 49 ∷ 48 ∷ 49 ∷ 48 ∷ 48 ∷ 48 ∷ 48 ∷ 48 ∷ 48 ∷ 48 ∷ 48 ∷ 48 ∷ 49 ∷ 48 ∷ 48 ∷ 48 ∷ 48 ∷ 48 ∷ 48 ∷ 48 ∷ 53 ∷ 48 ∷ 48 ∷ 48 ∷ 48 ∷ 48 ∷ 48
     ∷ 48 ∷ 49 ∷ 10
@@ -39,7 +39,7 @@ three_lines = refl
 -- entries. 1, 2, 3, 4, 10, 10.
 pub turned_back_lines :
     map (λ site. print_journal (flatten site) (9 ∷ []))
-    (((9 ∷ []) ∷ []) ∷ (record_of [] ∷ []) ∷ (zone_at 8 ∷ zone_at 8 ∷ []) ∷ (factor_at_law 1 5 7 ∷ []) ∷ (zone_at 8 ∷ [])
+    (((9 ∷ []) ∷ []) ∷ (record_of [] ∷ []) ∷ (zone_at 8 ∷ zone_at 8 ∷ []) ∷ (factor_with 1 5 7 ∷ []) ∷ (zone_at 8 ∷ [])
     ∷ (zone_at 7 ∷ zone_at 8 ∷ zone_at 9 ∷ []) ∷ [])
     ≡ (49 ∷ 10 ∷ []) ∷ (50 ∷ 10 ∷ []) ∷ (51 ∷ 10 ∷ []) ∷ (52 ∷ 10 ∷ []) ∷ (49 ∷ 48 ∷ 10 ∷ []) ∷ (49 ∷ 48 ∷ 10 ∷ []) ∷ []
 unfolding definitions tables put records_at

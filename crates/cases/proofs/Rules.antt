@@ -3,14 +3,14 @@ use Prim.Native.Nat.{ℕ}
 use mathlib.Core.Path.{◌≡◌, refl}
 use mathlib.Core.List.{List, [], ◌∷◌, ◌++◌, map}
 use Rattle.cases.proofs.Change.{Field, with_fields}
-use Rattle.cases.proofs.Fields.{instance, flags, mode, zone_to_law, zone_from_law, location_kind_law, weekdays, location, from_minute_law, to_minute_law, first_rights, second_rights}
+use Rattle.cases.proofs.Fields.{instance, flags, mode, zone_to_field, zone_from_field, location_kind_field, weekdays, location, from_minute_field, to_minute_field, first_rights, second_rights}
 use Rattle.cases.proofs.Bytes.{door, hall, yard, rule, person, entry, shows, site, from_new, told, bytes}
 
 -- The site of point 2 in AUTHORIZE, from zone 8 into zone 7, where credential 5 has rights 9; rules with fields changed, and other objects.
 unfoldable pub ruled : List (List Field) → List (List ℕ) → List (List ℕ)
 ruled rs others =
     map (λ fs. with_fields fs rule) rs ++ others
-    ++ (hall ∷ yard ∷ site (mode 0 ∷ zone_to_law 7 ∷ zone_from_law 8 ∷ []) (first_rights 9 ∷ []) [])
+    ++ (hall ∷ yard ∷ site (mode 0 ∷ zone_to_field 7 ∷ zone_from_field 8 ∷ []) (first_rights 9 ∷ []) [])
 
 -- The events of the card at 0, and at the times given.
 unfoldable pub under : List (List Field) → List ℕ
@@ -51,7 +51,7 @@ rights = record { of_both = refl; real = refl; enabled = refl; a_credential = re
 pub record Locations : Type 0 where
   -- "A location fits if everywhere, this point, or its Zone_To."
   fits :
-      under ((flags 13 ∷ location_kind_law 0 ∷ location 0 ∷ []) ∷ []) ++ under ([] ∷ []) ++ under ((location_kind_law 1 ∷ location 7 ∷ []) ∷ [])
+      under ((flags 13 ∷ location_kind_field 0 ∷ location 0 ∷ []) ∷ []) ++ under ([] ∷ []) ++ under ((location_kind_field 1 ∷ location 7 ∷ []) ∷ [])
       ≡ 1 ∷ 1 ∷ 1 ∷ []
   -- Another point, whose number is not the card's format.
   another_point :
@@ -64,21 +64,21 @@ pub record Locations : Type 0 where
   last_zone :
       told
       (from_new
-      (with_fields (location_kind_law 1 ∷ location 4194302 ∷ []) rule ∷ with_fields (instance 4194302 ∷ []) hall
-      ∷ site (mode 0 ∷ zone_to_law 4194302 ∷ []) (first_rights 9 ∷ []) [])
+      (with_fields (location_kind_field 1 ∷ location 4194302 ∷ []) rule ∷ with_fields (instance 4194302 ∷ []) hall
+      ∷ site (mode 0 ∷ zone_to_field 4194302 ∷ []) (first_rights 9 ∷ []) [])
       (shows 0 0x55 ∷ []))
       ≡ 1 ∷ []
   -- Zone_From does not; nor other points, a point with the number of Zone_To, a zone with the number of the point.
   elsewhere :
-      under ((location_kind_law 1 ∷ location 8 ∷ []) ∷ [])
+      under ((location_kind_field 1 ∷ location 8 ∷ []) ∷ [])
       ++ told (from_new (ruled ((location 1 ∷ []) ∷ []) (with_fields (instance 1 ∷ []) door ∷ [])) (shows 0 0x55 ∷ []))
       ++ told (from_new (ruled ((location 3 ∷ []) ∷ []) (with_fields (instance 3 ∷ []) door ∷ [])) (shows 0 0x55 ∷ []))
       ++ told (from_new (ruled ((location 7 ∷ []) ∷ []) (with_fields (instance 7 ∷ []) door ∷ [])) (shows 0 0x55 ∷ []))
-      ++ told (from_new (ruled ((location_kind_law 1 ∷ []) ∷ []) (with_fields (instance 2 ∷ []) hall ∷ [])) (shows 0 0x55 ∷ []))
+      ++ told (from_new (ruled ((location_kind_field 1 ∷ []) ∷ []) (with_fields (instance 2 ∷ []) hall ∷ [])) (shows 0 0x55 ∷ []))
       ≡ 133 ∷ 133 ∷ 133 ∷ 133 ∷ 133 ∷ []
   -- "else 133 with a Zone_To, 134 without".
   without_zone :
-      outside ((flags 13 ∷ location_kind_law 0 ∷ location 0 ∷ []) ∷ []) ++ outside ([] ∷ []) ++ outside ((location_kind_law 1 ∷ location 7 ∷ []) ∷ [])
+      outside ((flags 13 ∷ location_kind_field 0 ∷ location 0 ∷ []) ∷ []) ++ outside ([] ∷ []) ++ outside ((location_kind_field 1 ∷ location 7 ∷ []) ∷ [])
       ≡ 1 ∷ 1 ∷ 134 ∷ []
 
 pub locations : Locations
@@ -87,7 +87,7 @@ locations = record { fits = refl; another_point = refl; last_zone = refl; elsewh
 
 -- An enabled rule at point 2 on these days, from a minute to another.
 abbrev pub on : ℕ → ℕ → ℕ → List Field
-on ds from to = flags 1 ∷ weekdays ds ∷ from_minute_law from ∷ to_minute_law to ∷ []
+on ds from to = flags 1 ∷ weekdays ds ∷ from_minute_field from ∷ to_minute_field to ∷ []
 
 pub record Times : Type 0 where
   -- "bit 0 Monday to bit 6 Sunday": Tuesday, Thursday and Saturday.
@@ -134,22 +134,22 @@ pub record Signs : Type 0 where
   -- A negative that is disabled, of no rights of the credential, elsewhere, or outside its hours does not fit.
   unfit :
       under ((flags 6 ∷ []) ∷ [] ∷ []) ++ under ((flags 7 ∷ instance 10 ∷ []) ∷ [] ∷ [])
-      ++ under ((flags 7 ∷ location_kind_law 1 ∷ location 8 ∷ []) ∷ [] ∷ [])
-      ++ under ((flags 3 ∷ weekdays 0x7F ∷ from_minute_law 10 ∷ to_minute_law 20 ∷ []) ∷ [] ∷ [])
+      ++ under ((flags 7 ∷ location_kind_field 1 ∷ location 8 ∷ []) ∷ [] ∷ [])
+      ++ under ((flags 3 ∷ weekdays 0x7F ∷ from_minute_field 10 ∷ to_minute_field 20 ∷ []) ∷ [] ∷ [])
       ≡ 1 ∷ 1 ∷ 1 ∷ 1 ∷ []
   -- 135 before 136 and 133.
   negative_first : under ((flags 7 ∷ []) ∷ on 0x7F 10 20 ∷ []) ++ under ((flags 7 ∷ []) ∷ []) ≡ 135 ∷ 135 ∷ []
   -- "no fitting positive: 136 if a positive fits in location": out of its hours, and beside another elsewhere; without a Zone_To too; of
   -- the second rights.
   out_of_time :
-      under (on 0x7F 10 20 ∷ []) ++ under (on 0x7F 10 20 ∷ (location_kind_law 1 ∷ location 8 ∷ []) ∷ []) ++ outside (on 0x7F 10 20 ∷ [])
+      under (on 0x7F 10 20 ∷ []) ++ under (on 0x7F 10 20 ∷ (location_kind_field 1 ∷ location 8 ∷ []) ∷ []) ++ outside (on 0x7F 10 20 ∷ [])
       ++ told (from_new (with_fields (on 0x7F 10 20) rule ∷ site (mode 0 ∷ []) (second_rights 9 ∷ []) []) (shows 0 0x55 ∷ []))
       ≡ 136 ∷ 136 ∷ 136 ∷ 136 ∷ []
   -- "else 133": the located one is negative, disabled, of other rights.
   not_located :
-      under ((flags 3 ∷ weekdays 0x7F ∷ from_minute_law 10 ∷ to_minute_law 20 ∷ []) ∷ [])
-      ++ under ((flags 0 ∷ weekdays 0x7F ∷ from_minute_law 10 ∷ to_minute_law 20 ∷ []) ∷ [])
-      ++ under ((flags 1 ∷ instance 10 ∷ weekdays 0x7F ∷ from_minute_law 10 ∷ to_minute_law 20 ∷ []) ∷ [])
+      under ((flags 3 ∷ weekdays 0x7F ∷ from_minute_field 10 ∷ to_minute_field 20 ∷ []) ∷ [])
+      ++ under ((flags 0 ∷ weekdays 0x7F ∷ from_minute_field 10 ∷ to_minute_field 20 ∷ []) ∷ [])
+      ++ under ((flags 1 ∷ instance 10 ∷ weekdays 0x7F ∷ from_minute_field 10 ∷ to_minute_field 20 ∷ []) ∷ [])
       ≡ 133 ∷ 133 ∷ 133 ∷ []
   -- The last of several fits.
   last : under ((flags 4 ∷ []) ∷ (instance 10 ∷ []) ∷ on 0x7F 10 20 ∷ [] ∷ []) ≡ 1 ∷ []

@@ -18,14 +18,14 @@ point_at i to from = record_of ((0, 1, 2) ∷ (3, 1, 1) ∷ (4, 4, i) ∷ (8, 4,
 unfoldable pub rule_at : ℕ → ℕ → ℕ → List ℕ
 rule_at i kind location = record_of ((0, 1, 3) ∷ (1, 1, 5) ∷ (2, 1, kind) ∷ (4, 4, i) ∷ (8, 4, location) ∷ [])
 
-unfoldable pub credential_at_law : ℕ → List ℕ
-credential_at_law i = record_of ((0, 1, 4) ∷ (4, 4, i) ∷ (24, 4, 4194303) ∷ (28, 4, 4194303) ∷ [])
+unfoldable pub credential_with : ℕ → List ℕ
+credential_with i = record_of ((0, 1, 4) ∷ (4, 4, i) ∷ (24, 4, 4194303) ∷ (28, 4, 4194303) ∷ [])
 
-unfoldable pub factor_at_law : ℕ → ℕ → ℕ → List ℕ
-factor_at_law role i value = record_of ((0, 1, 5) ∷ (2, 1, role) ∷ (4, 4, i) ∷ (8, 1, 2) ∷ (20, 4, value) ∷ [])
+unfoldable pub factor_with : ℕ → ℕ → ℕ → List ℕ
+factor_with role i value = record_of ((0, 1, 5) ∷ (2, 1, role) ∷ (4, 4, i) ∷ (8, 1, 2) ∷ (20, 4, value) ∷ [])
 
 unfoldable pub records_at : Unit {0}
-unfolding zone_at point_at rule_at credential_at_law factor_at_law
+unfolding zone_at point_at rule_at credential_with factor_with
 records_at = tt
 
 -- Refusal 1: "site not a multiple of 32, or above 64,000 bytes". "At most 2,000; none is allowed." A record of zeros has no kind.
@@ -41,10 +41,10 @@ pub instances_twice :
     ((zone_at 7 ∷ zone_at 7 ∷ []) ∷ (zone_at 7 ∷ zone_at 8 ∷ []) ∷ (zone_at 8 ∷ zone_at 7 ∷ []) ∷ (zone_at 7 ∷ zone_at 8 ∷ zone_at 7 ∷ [])
     ∷ (zone_at 8 ∷ zone_at 7 ∷ zone_at 7 ∷ [])
     ∷ (point_at 7 4194303 4194303 ∷ point_at 7 4194303 4194303 ∷ []) ∷ (point_at 7 4194303 4194303 ∷ point_at 8 4194303 4194303 ∷ [])
-    ∷ (point_at 8 4194303 4194303 ∷ point_at 7 4194303 4194303 ∷ []) ∷ (credential_at_law 7 ∷ credential_at_law 7 ∷ [])
-    ∷ (credential_at_law 7 ∷ credential_at_law 8 ∷ []) ∷ (credential_at_law 8 ∷ credential_at_law 7 ∷ [])
-    ∷ (zone_at 7 ∷ point_at 7 7 4194303 ∷ credential_at_law 7 ∷ rule_at 7 1 7 ∷ rule_at 7 1 7 ∷ factor_at_law 1 7 7 ∷ [])
-    ∷ (credential_at_law 7 ∷ point_at 7 4194303 4194303 ∷ zone_at 7 ∷ []) ∷ [])
+    ∷ (point_at 8 4194303 4194303 ∷ point_at 7 4194303 4194303 ∷ []) ∷ (credential_with 7 ∷ credential_with 7 ∷ [])
+    ∷ (credential_with 7 ∷ credential_with 8 ∷ []) ∷ (credential_with 8 ∷ credential_with 7 ∷ [])
+    ∷ (zone_at 7 ∷ point_at 7 7 4194303 ∷ credential_with 7 ∷ rule_at 7 1 7 ∷ rule_at 7 1 7 ∷ factor_with 1 7 7 ∷ [])
+    ∷ (credential_with 7 ∷ point_at 7 4194303 4194303 ∷ zone_at 7 ∷ []) ∷ [])
     ≡ 3 ∷ 0 ∷ 0 ∷ 3 ∷ 3 ∷ 3 ∷ 0 ∷ 0 ∷ 3 ∷ 0 ∷ 0 ∷ 0 ∷ 0 ∷ []
 unfolding definitions tables put records_at
 instances_twice = refl
@@ -52,14 +52,14 @@ instances_twice = refl
 -- "two identifying factors alike in format and value; two confirming ones alike in credential, format and value". "all eight value bytes are
 -- compared, leading zeros included."
 pub factors_twice :
-    map (λ fs. site_number (credential_at_law 5 ∷ credential_at_law 6 ∷ fs))
-    ((factor_at_law 1 5 7 ∷ factor_at_law 1 6 7 ∷ []) ∷ (factor_at_law 1 5 7 ∷ factor_at_law 1 5 7 ∷ []) ∷ (factor_at_law 1 5 7 ∷ factor_at_law 1 5 8 ∷ [])
-    ∷ (factor_at_law 1 5 7 ∷ factor_at_law 2 5 7 ∷ []) ∷ (factor_at_law 2 5 7 ∷ factor_at_law 1 5 7 ∷ []) ∷ (factor_at_law 2 5 7 ∷ factor_at_law 2 5 7 ∷ [])
-    ∷ (factor_at_law 2 5 7 ∷ factor_at_law 2 6 7 ∷ []) ∷ (factor_at_law 2 6 7 ∷ factor_at_law 2 5 7 ∷ [])
-    ∷ (factor_at_law 1 5 0 ∷ record_of ((0, 1, 5) ∷ (2, 1, 1) ∷ (4, 4, 5) ∷ (8, 1, 3) ∷ []) ∷ [])
-    ∷ (record_of ((0, 1, 5) ∷ (2, 1, 1) ∷ (4, 4, 5) ∷ (8, 1, 3) ∷ []) ∷ factor_at_law 1 5 0 ∷ [])
-    ∷ (factor_at_law 1 5 0 ∷ record_of ((0, 1, 5) ∷ (2, 1, 1) ∷ (4, 4, 5) ∷ (8, 1, 2) ∷ (16, 1, 1) ∷ []) ∷ [])
-    ∷ (factor_at_law 1 5 256 ∷ factor_at_law 1 6 512 ∷ []) ∷ [])
+    map (λ fs. site_number (credential_with 5 ∷ credential_with 6 ∷ fs))
+    ((factor_with 1 5 7 ∷ factor_with 1 6 7 ∷ []) ∷ (factor_with 1 5 7 ∷ factor_with 1 5 7 ∷ []) ∷ (factor_with 1 5 7 ∷ factor_with 1 5 8 ∷ [])
+    ∷ (factor_with 1 5 7 ∷ factor_with 2 5 7 ∷ []) ∷ (factor_with 2 5 7 ∷ factor_with 1 5 7 ∷ []) ∷ (factor_with 2 5 7 ∷ factor_with 2 5 7 ∷ [])
+    ∷ (factor_with 2 5 7 ∷ factor_with 2 6 7 ∷ []) ∷ (factor_with 2 6 7 ∷ factor_with 2 5 7 ∷ [])
+    ∷ (factor_with 1 5 0 ∷ record_of ((0, 1, 5) ∷ (2, 1, 1) ∷ (4, 4, 5) ∷ (8, 1, 3) ∷ []) ∷ [])
+    ∷ (record_of ((0, 1, 5) ∷ (2, 1, 1) ∷ (4, 4, 5) ∷ (8, 1, 3) ∷ []) ∷ factor_with 1 5 0 ∷ [])
+    ∷ (factor_with 1 5 0 ∷ record_of ((0, 1, 5) ∷ (2, 1, 1) ∷ (4, 4, 5) ∷ (8, 1, 2) ∷ (16, 1, 1) ∷ []) ∷ [])
+    ∷ (factor_with 1 5 256 ∷ factor_with 1 6 512 ∷ []) ∷ [])
     ≡ 3 ∷ 3 ∷ 0 ∷ 0 ∷ 0 ∷ 3 ∷ 0 ∷ 0 ∷ 0 ∷ 0 ∷ 0 ∷ 0 ∷ []
 unfolding definitions tables put records_at
 factors_twice = refl
@@ -68,11 +68,11 @@ factors_twice = refl
 -- A record can name one that stands after it.
 pub missing_names :
     map site_number
-    ((point_at 1 7 4194303 ∷ zone_at 7 ∷ []) ∷ (point_at 1 4194303 7 ∷ zone_at 7 ∷ []) ∷ (point_at 1 7 4194303 ∷ zone_at 8 ∷ credential_at_law 7 ∷ [])
+    ((point_at 1 7 4194303 ∷ zone_at 7 ∷ []) ∷ (point_at 1 4194303 7 ∷ zone_at 7 ∷ []) ∷ (point_at 1 7 4194303 ∷ zone_at 8 ∷ credential_with 7 ∷ [])
     ∷ (point_at 1 4194303 7 ∷ zone_at 6 ∷ point_at 7 4194303 4194303 ∷ [])
     ∷ (rule_at 1 1 7 ∷ zone_at 7 ∷ []) ∷ (rule_at 1 2 7 ∷ zone_at 7 ∷ []) ∷ (rule_at 1 1 7 ∷ point_at 7 4194303 4194303 ∷ [])
     ∷ (rule_at 1 2 7 ∷ point_at 7 4194303 4194303 ∷ []) ∷ (record_of ((0, 1, 3) ∷ (1, 1, 8) ∷ (4, 4, 1) ∷ []) ∷ [])
-    ∷ (factor_at_law 1 7 0 ∷ credential_at_law 7 ∷ []) ∷ (factor_at_law 1 7 0 ∷ credential_at_law 8 ∷ zone_at 7 ∷ [])
+    ∷ (factor_with 1 7 0 ∷ credential_with 7 ∷ []) ∷ (factor_with 1 7 0 ∷ credential_with 8 ∷ zone_at 7 ∷ [])
     ∷ (record_of ((0, 1, 4) ∷ (4, 4, 7) ∷ (24, 4, 1) ∷ (28, 4, 2) ∷ []) ∷ []) ∷ [])
     ≡ 0 ∷ 0 ∷ 4 ∷ 4 ∷ 0 ∷ 4 ∷ 4 ∷ 0 ∷ 0 ∷ 0 ∷ 4 ∷ 0 ∷ []
 unfolding definitions tables put records_at

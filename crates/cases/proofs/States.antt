@@ -12,7 +12,7 @@ use Rattle.model.proofs.Open.{definitions}
 use Rattle.cases.proofs.Change.{Field, with_fields}
 use Rattle.cases.proofs.Records.{record_of, tables}
 use Rattle.cases.proofs.Lookups.{offsets}
-use Rattle.cases.proofs.SiteCheck.{zone_at, point_at, rule_at, credential_at_law, factor_at_law, records_at}
+use Rattle.cases.proofs.SiteCheck.{zone_at, point_at, rule_at, credential_with, factor_with, records_at}
 
 -- ── fields, read from a record whose every byte is its offset, and written
 
@@ -109,7 +109,7 @@ unfoldable pub every_kind : List ℕ
 every_kind =
     flatten
     (zone_at 8 ∷ with_fields ((17, 1, 3) ∷ []) (point_at 2 8 4194303) ∷ point_at 3 4194303 8 ∷ rule_at 1 1 8
-    ∷ with_fields ((2, 1, 3) ∷ (16, 2, 0x0102) ∷ (18, 2, 0x0304) ∷ (22, 1, 4) ∷ []) (credential_at_law 5) ∷ factor_at_law 1 6 7 ∷ credential_at_law 6 ∷ [])
+    ∷ with_fields ((2, 1, 3) ∷ (16, 2, 0x0102) ∷ (18, 2, 0x0304) ∷ (22, 1, 4) ∷ []) (credential_with 5) ∷ factor_with 1 6 7 ∷ credential_with 6 ∷ [])
 
 -- "Fresh: uses, days, disable from the site; references NONE; last use and entered never; else zero." "Rule, factor: zero." Document 02: the count of
 -- wrong tries is such a zero; last grant is "never when fresh".
@@ -142,7 +142,7 @@ unfolding definitions tables put records_at every_kind
 fresh_lengths = refl
 
 pub fresh_refused :
-    map (λ site. fresh_state (flatten site) (7 ∷ [])) (((0 ∷ []) ∷ []) ∷ (replicate 32 0 ∷ []) ∷ (zone_at 8 ∷ zone_at 8 ∷ []) ∷ (factor_at_law 1 5 7 ∷ []) ∷ [])
+    map (λ site. fresh_state (flatten site) (7 ∷ [])) (((0 ∷ []) ∷ []) ∷ (replicate 32 0 ∷ []) ∷ (zone_at 8 ∷ zone_at 8 ∷ []) ∷ (factor_with 1 5 7 ∷ []) ∷ [])
     ≡ record { returned = SiteLength; state = 7 ∷ [] } ∷ record { returned = SiteField; state = 7 ∷ [] }
     ∷ record { returned = SiteTwice; state = 7 ∷ [] } ∷ record { returned = SiteMissing; state = 7 ∷ [] } ∷ []
 unfolding definitions tables put records_at
@@ -207,7 +207,7 @@ tries_well = refl
 pub mosts_well :
     map
     (λ (most, counted).
-    number (check_state (with_fields ((22, 1, most) ∷ []) (credential_at_law 5)) (record_of ((8, 4, 4194303) ∷ (19, 1, counted) ∷ (20, 4, 4194303) ∷ []))))
+    number (check_state (with_fields ((22, 1, most) ∷ []) (credential_with 5)) (record_of ((8, 4, 4194303) ∷ (19, 1, counted) ∷ (20, 4, 4194303) ∷ []))))
     ((1, 0) ∷ (1, 1) ∷ (1, 2) ∷ (255, 0) ∷ (255, 254) ∷ (255, 255) ∷ (0, 0) ∷ (0, 1) ∷ (0, 255) ∷ [])
     ≡ 0 ∷ 6 ∷ 6 ∷ 0 ∷ 0 ∷ 6 ∷ 0 ∷ 6 ∷ 6 ∷ []
 unfolding definitions tables put records_at

@@ -9,7 +9,7 @@ use Rattle.model.specs.DayPasses.{is_grant_of, state_left}
 use Rattle.model.specs.WrongTries.{is_try_of, is_disable_of, tried, tried_once, tried_by, tried_after, most_tries, tried_of, tries_in, tries_since}
 use Rattle.model.proofs.Build.{cut, history, examples}
 use Rattle.cases.proofs.Change.{Field, with_fields}
-use Rattle.cases.proofs.Fields.{disable, most_tries_law}
+use Rattle.cases.proofs.Fields.{disable, most_tries_field}
 use Rattle.cases.proofs.Bytes.{hall, person, card, pin, entry}
 use Rattle.cases.proofs.WrongTries.{floor_door, floor, shows_at, types_at, once, twice, thrice, lifted, story_open}
 
@@ -136,11 +136,11 @@ unset = history (floor_of []) (thrice ∷ []) refl
 
 unfoldable pub disabled_once : History
 unfolding tries_open floor_of
-disabled_once = history (floor_of (disable 1 ∷ most_tries_law 3 ∷ [])) (once ∷ []) refl
+disabled_once = history (floor_of (disable 1 ∷ most_tries_field 3 ∷ [])) (once ∷ []) refl
 
 unfoldable pub disabled_thrice : History
 unfolding tries_open floor_of
-disabled_thrice = history (floor_of (disable 1 ∷ most_tries_law 3 ∷ [])) (thrice ∷ []) refl
+disabled_thrice = history (floor_of (disable 1 ∷ most_tries_field 3 ∷ [])) (thrice ∷ []) refl
 
 pub record Lists : Type 0 where
   -- Two tries, "a grant .. also zeroes it", one try.

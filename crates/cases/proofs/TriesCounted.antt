@@ -4,7 +4,7 @@ use Prim.Native.Nat.{ℕ}
 use mathlib.Core.Path.{◌≡◌, refl}
 use mathlib.Core.List.{List, [], ◌∷◌, ◌++◌}
 use Rattle.cases.proofs.Change.{Field}
-use Rattle.cases.proofs.Fields.{flags, mode, factors_wanted, most, factor_timeout, window, most_tries_law, failures, waiting_for, waiting_since, disabled, tries}
+use Rattle.cases.proofs.Fields.{flags, mode, factors_wanted, most, factor_timeout, window, most_tries_field, failures, waiting_for, waiting_since, disabled, tries}
 use Rattle.cases.proofs.Bytes.{shows, types, errs, site, state, from_state, worked, bytes}
 
 -- A journal where point 2 waits for credential 5 since 1000: it wants the second factor within 30 seconds and locks at the first failure. The most wrong tries
@@ -12,7 +12,7 @@ use Rattle.cases.proofs.Bytes.{shows, types, errs, site, state, from_state, work
 unfoldable pub awaiting : List Field → List Field → List Field → List Field → List (List ℕ) → List ℕ
 awaiting ds ps ts ss journal =
     worked
-    (from_state (site (factors_wanted 2 ∷ factor_timeout 30 ∷ most 1 ∷ ds) (most_tries_law 3 ∷ ps) [])
+    (from_state (site (factors_wanted 2 ∷ factor_timeout 30 ∷ most 1 ∷ ds) (most_tries_field 3 ∷ ps) [])
     (state (waiting_for 5 ∷ waiting_since 1000 ∷ ts) ss) journal)
 
 -- A late code and a wrong code, of a credential with these fields and these fields of its state.
@@ -53,14 +53,14 @@ pub record Counted : Type 0 where
       ∷ 0x0009_0008_00000439_003FFFFF_00000258_0083_03_00_00000002_0000028A_00000000 ∷ 0 ∷ 0 ∷ []
   -- "0 unset": counted nowhere.
   unset :
-      late (most_tries_law 0 ∷ []) [] ++ wrong (most_tries_law 0 ∷ []) []
+      late (most_tries_field 0 ∷ []) [] ++ wrong (most_tries_field 0 ∷ []) []
       ≡ alone 0x0083_01_00_0000000B_00000005_00000000 0x0009_0008_00000407_003FFFFF_00000258_0083_00_00_00000002_0000028A_00000000
       ++ alone 0x0084_01_00_0000000B_00000005_00000000 0x0009_0008_00000406_003FFFFF_00000258_0084_00_00_00000002_0000028A_00000000
   -- "not on the point": two failures of three, the first long before the point's window, which is not the card's; where the card's most is set, with a try
   -- before this one, and where it is not.
   point_left :
       awaiting (most 3 ∷ window 10 ∷ []) [] (failures 2 ∷ []) (tries 1 ∷ []) (types 1031 0x66 ∷ [])
-      ++ awaiting (most 3 ∷ window 10 ∷ []) (most_tries_law 0 ∷ []) (failures 2 ∷ []) [] (types 1030 0x67 ∷ [])
+      ++ awaiting (most 3 ∷ window 10 ∷ []) (most_tries_field 0 ∷ []) (failures 2 ∷ []) [] (types 1030 0x67 ∷ [])
       ≡ 0x0083_01_00_0000000B_00000005_00000000 ∷ 0x0000000B_02_00_0000_000003E8_00000384_003FFFFF_000003E8_0000000000000000
       ∷ 0x0009_0008_00000407_003FFFFF_00000258_0083_00_02_00000002_0000028A_00000000 ∷ 0 ∷ 0
       ∷ 0x0084_01_00_0000000B_00000005_00000000 ∷ 0x0000000B_02_00_0000_000003E8_00000384_003FFFFF_000003E8_0000000000000000
@@ -118,12 +118,12 @@ pub record Reached : Type 0 where
       ++ alone 0x0084_03_00_0000000B_00000005_00000000 0x0009_0008_00000406_003FFFFF_00000258_0084_03_00_00000002_0000028A_00000000
   -- A most of 1: the first.
   at_once :
-      late (most_tries_law 1 ∷ []) [] ++ wrong (most_tries_law 1 ∷ []) []
+      late (most_tries_field 1 ∷ []) [] ++ wrong (most_tries_field 1 ∷ []) []
       ≡ alone 0x0083_01_00_0000000B_00000005_00000000 0x0009_0008_00000407_003FFFFF_00000258_0083_03_00_00000002_0000028A_00000000
       ++ alone 0x0084_01_00_0000000B_00000005_00000000 0x0009_0008_00000406_003FFFFF_00000258_0084_03_00_00000002_0000028A_00000000
   -- The largest most, 255: 253 become 254, and 254 reach it.
   largest :
-      wrong (most_tries_law 255 ∷ []) (tries 253 ∷ []) ++ wrong (most_tries_law 255 ∷ []) (tries 254 ∷ [])
+      wrong (most_tries_field 255 ∷ []) (tries 253 ∷ []) ++ wrong (most_tries_field 255 ∷ []) (tries 254 ∷ [])
       ≡ alone 0x0084_01_00_0000000B_00000005_00000000 0x0009_0008_00000406_003FFFFF_00000258_0084_00_FE_00000002_0000028A_00000000
       ++ alone 0x0084_01_00_0000000B_00000005_00000000 0x0009_0008_00000406_003FFFFF_00000258_0084_03_00_00000002_0000028A_00000000
   -- "sets the disable to LOCKOUT", whatever it was: DISABLE, MANUAL, LOCKOUT. Below the most each stays.

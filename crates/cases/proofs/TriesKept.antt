@@ -3,7 +3,7 @@ use Prim.Native.Nat.{ℕ}
 use mathlib.Core.Path.{◌≡◌, refl}
 use mathlib.Core.List.{List, [], ◌∷◌, ◌++◌}
 use Rattle.cases.proofs.Change.{Field}
-use Rattle.cases.proofs.Fields.{flags, mode, factors_wanted, most, most_tries_law, expiry, factor_disable_law, failures, locked, waiting_for, waiting_since, disabled, tries}
+use Rattle.cases.proofs.Fields.{flags, mode, factors_wanted, most, most_tries_field, expiry, factor_disable_field, failures, locked, waiting_for, waiting_since, disabled, tries}
 use Rattle.cases.proofs.Bytes.{counted, entry, shows, types, errs, site, state, passing, from_state, worked, bytes}
 use Rattle.cases.proofs.TriesCounted.{awaiting, alone, awaiting_open}
 
@@ -52,7 +52,7 @@ elsewhere = record { damaged = refl; damaged_added = refl; damaged_unset = refl;
 unfoldable pub disabled_code : ℕ → List ℕ
 disabled_code n =
     worked
-    (from_state (site (factors_wanted 2 ∷ most 1 ∷ []) (most_tries_law 3 ∷ []) (factor_disable_law n ∷ []))
+    (from_state (site (factors_wanted 2 ∷ most 1 ∷ []) (most_tries_field 3 ∷ []) (factor_disable_field n ∷ []))
     (state (waiting_for 5 ∷ waiting_since 1000 ∷ []) (tries 2 ∷ [])) (types 1030 0x66 ∷ []))
 
 unfoldable pub right_code : List Field → List Field → List Field → List ℕ
@@ -87,7 +87,7 @@ pub record Kept : Type 0 where
   -- 133, at a point into a zone.
   no_zone_rights :
       worked
-      (from_state (passing [] [] (factors_wanted 2 ∷ mode 0 ∷ []) (most_tries_law 3 ∷ []))
+      (from_state (passing [] [] (factors_wanted 2 ∷ mode 0 ∷ []) (most_tries_field 3 ∷ []))
       (counted 0 ∷ counted 0 ∷ state (waiting_for 5 ∷ waiting_since 1000 ∷ []) (tries 2 ∷ [])) (types 1030 0x66 ∷ []))
       ≡ 0x0085_01_00_0000000B_00000005_00000000 ∷ 0 ∷ 0 ∷ 0x0000000B_00_00_0000_000003E8_00000384_003FFFFF_000003E8_0000000000000000
       ∷ 0x0009_0008_00000406_003FFFFF_00000258_0085_00_02_00000002_0000028A_00000000 ∷ 0 ∷ 0 ∷ []

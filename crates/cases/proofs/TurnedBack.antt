@@ -8,7 +8,7 @@ use Rattle.model.specs.Calls.{number, run_result, run_returned, run_journal}
 use Rattle.model.specs.declared.Returned.TheVariants.{WorkedThrough, SiteLength, SiteField, SiteTwice, SiteMissing, StateLength, StateForm, JournalLength, AnswersLength}
 use Rattle.model.proofs.Open.{definitions}
 use Rattle.cases.proofs.Records.{record_of, entry_with, tables}
-use Rattle.cases.proofs.SiteCheck.{zone_at, point_at, factor_at_law, records_at}
+use Rattle.cases.proofs.SiteCheck.{zone_at, point_at, factor_with, records_at}
 
 -- "Returned": the number of each.
 pub returned_numbers :
@@ -29,8 +29,8 @@ turned site state journal answered =
 
 pub run_order :
     turned ((1 ∷ []) ∷ zone_at 8 ∷ []) (9 ∷ []) (9 ∷ []) (9 ∷ [])
-    ∷ turned (record_of [] ∷ factor_at_law 1 5 7 ∷ factor_at_law 1 5 7 ∷ []) (9 ∷ []) (9 ∷ []) (9 ∷ [])
-    ∷ turned (factor_at_law 1 5 7 ∷ factor_at_law 1 5 7 ∷ []) (9 ∷ []) (9 ∷ []) (9 ∷ []) ∷ turned (factor_at_law 1 5 7 ∷ []) (9 ∷ []) (9 ∷ []) (9 ∷ [])
+    ∷ turned (record_of [] ∷ factor_with 1 5 7 ∷ factor_with 1 5 7 ∷ []) (9 ∷ []) (9 ∷ []) (9 ∷ [])
+    ∷ turned (factor_with 1 5 7 ∷ factor_with 1 5 7 ∷ []) (9 ∷ []) (9 ∷ []) (9 ∷ []) ∷ turned (factor_with 1 5 7 ∷ []) (9 ∷ []) (9 ∷ []) (9 ∷ [])
     ∷ turned (zone_at 8 ∷ []) (9 ∷ []) (9 ∷ []) (9 ∷ []) ∷ turned (point_at 8 4194303 4194303 ∷ []) (replicate 32 9) (9 ∷ []) (9 ∷ [])
     ∷ turned (zone_at 8 ∷ []) (record_of ((3, 1, 9) ∷ [])) (9 ∷ []) (9 ∷ [])
     ∷ turned (zone_at 8 ∷ []) (record_of ((3, 1, 9) ∷ [])) (entry_with ((0, 1, 2) ∷ (8, 4, 8) ∷ [])) (9 ∷ []) ∷ []

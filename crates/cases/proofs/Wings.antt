@@ -15,7 +15,7 @@ use Rattle.model.proofs.Build.{cut, history, examples}
 use Rattle.cases.proofs.Change.{with_fields}
 use Rattle.cases.proofs.Records.{record_of, entry_with, tables}
 use Rattle.cases.proofs.SiteCheck.{zone_at, point_at, records_at}
-use Rattle.cases.proofs.Fields.{zone_to_law}
+use Rattle.cases.proofs.Fields.{zone_to_field}
 use Rattle.cases.proofs.Bytes.{hall, yard, entry}
 use Rattle.cases.proofs.WrongTries.{floor_door, holder, shows_at, types_at, story_open}
 use Rattle.cases.proofs.SelfContained.{border}
@@ -26,7 +26,7 @@ unfoldable pub east_records : List (List ℕ)
 east_records = hall ∷ floor_door 2 ∷ holder 5 0x55 0x66
 
 unfoldable pub west_records : List (List ℕ)
-west_records = yard ∷ with_fields (zone_to_law 8 ∷ []) (floor_door 3) ∷ holder 6 0x56 0x67
+west_records = yard ∷ with_fields (zone_to_field 8 ∷ []) (floor_door 3) ∷ holder 6 0x56 0x67
 
 unfoldable pub west : Part
 west =

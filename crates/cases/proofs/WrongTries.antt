@@ -6,7 +6,7 @@ use lib.ListN.{length}
 use Rattle.octets.specs.Octets.{field, groups}
 use Rattle.model.specs.Calls.{RunResult}
 use Rattle.cases.proofs.Change.{with_fields}
-use Rattle.cases.proofs.Fields.{instance, flags, factors_wanted, zone_to_law, most, most_tries_law, value}
+use Rattle.cases.proofs.Fields.{instance, flags, factors_wanted, zone_to_field, most, most_tries_field, value}
 use Rattle.cases.proofs.Bytes.{door, hall, person, card, pin, entry, from_new, answered, worked, bytes}
 
 -- ── "One person's forgotten code locks the door for a whole floor."
@@ -14,11 +14,11 @@ use Rattle.cases.proofs.Bytes.{door, hall, person, card, pin, entry, from_new, a
 -- A point into zone 7, with count adjust, that wants two factors and locks at the second failure. A credential whose most wrong tries are 3, with the value of
 -- its card and of its code.
 unfoldable pub floor_door : ℕ → List ℕ
-floor_door i = with_fields (instance i ∷ flags 8 ∷ factors_wanted 2 ∷ zone_to_law 7 ∷ most 2 ∷ []) door
+floor_door i = with_fields (instance i ∷ flags 8 ∷ factors_wanted 2 ∷ zone_to_field 7 ∷ most 2 ∷ []) door
 
 unfoldable pub holder : ℕ → ℕ → ℕ → List (List ℕ)
 holder i shown typed =
-    with_fields (instance i ∷ most_tries_law 3 ∷ []) person ∷ with_fields (instance i ∷ value shown ∷ []) card
+    with_fields (instance i ∷ most_tries_field 3 ∷ []) person ∷ with_fields (instance i ∷ value shown ∷ []) card
     ∷ with_fields (instance i ∷ value typed ∷ []) pin ∷ []
 
 -- The floor: zone 7, points 2 and 3, credentials 5 and 6.

@@ -115,8 +115,8 @@ pub apply_at : (site state : List ℕ) → length site % 32 ≡ 0 → length sta
     (panel site (applied o at state) ≡ apply o (panel site state)) × (length (applied o at state) ≡ length site)
 unfolding applied apply
 apply_at site state w l o at h =
-    let a = write_at site state w l o.zone_from.written 1 o.zone_from.instance.0 (zone_bytes o.zone_from.count) at.zone_from (length_zone _) h.zone_from_law in
-    let b = write_at site _ w a.1 o.zone_to.written 1 o.zone_to.instance.0 (zone_bytes o.zone_to.count) at.zone_to (length_zone _) h.zone_to_law in
+    let a = write_at site state w l o.zone_from.written 1 o.zone_from.instance.0 (zone_bytes o.zone_from.count) at.zone_from (length_zone _) h.zone_from in
+    let b = write_at site _ w a.1 o.zone_to.written 1 o.zone_to.instance.0 (zone_bytes o.zone_to.count) at.zone_to (length_zone _) h.zone_to in
     let c = write_at site _ w b.1 o.credential.written 4 o.credential.instance.0 (credential_bytes o.credential.state) at.credential (length_credential _) h.credential in
     let d = write_at site _ w c.1 o.point.written 2 o.point.instance.0 (point_bytes o.point.state) at.point (length_point _) h.point in
     (d.0 ∙ ap (write _ 2 _ _) (c.0 ∙ ap (write _ 4 _ _) (b.0 ∙ ap (write _ 1 _ _) a.0)), d.1)

@@ -36,7 +36,7 @@ use Rattle.model.specs.declared.Operation.TheVariants.{Factor, SetCount, AdjustC
 -- What writes nothing names nothing.
 placed_unchanged : (site : List ℕ) (a : Answer) (at : Places) → Placed site (unchanged a) at
 unfolding unchanged no_point no_credential no_count
-placed_unchanged site a at = record { point = λ h. cc; credential = λ h. cc; zone_to_law = λ h. cc; zone_from_law = λ h. cc }
+placed_unchanged site a at = record { point = λ h. cc; credential = λ h. cc; zone_to = λ h. cc; zone_from = λ h. cc }
 
 placed_refused : (site : List ℕ) (refusal : ℕ) (at : Places) → Placed site (refuse refusal) at
 unfolding refuse
@@ -45,7 +45,7 @@ placed_refused site refusal at = placed_unchanged site _ at
 module _ (site state : List ℕ) (e : Entry) (place : Place) where
   placed_count : (counted : ℕ) → place ≡ place_of n.access_zone e.instance site → Placed site (count_outcome e counted) (object_places place)
   unfolding count_outcome no_point no_credential no_count
-  placed_count counted p = record { point = λ h. cc; credential = λ h. cc; zone_to_law = λ h. p; zone_from_law = λ h. cc }
+  placed_count counted p = record { point = λ h. cc; credential = λ h. cc; zone_to = λ h. p; zone_from = λ h. cc }
 
   placed_worked : (o : Operation) → place ≡ place_of (object_kind o) e.instance site →
       Placed site (worked_at o place e site state).outcome (worked_at o place e site state).places
@@ -57,8 +57,8 @@ module _ (site state : List ℕ) (e : Entry) (place : Place) where
   placed_worked AdjustCount p =
       if_holds (λ u. Placed site u (object_places place)) (ltb n.largest_count (adjusted (count (part_at place state)) e.amount)) (refuse n.refused_count) _
       (placed_refused site _ _) (placed_count _ p)
-  placed_worked SetDisable p = record { point = λ h. cc; credential = λ h. p; zone_to_law = λ h. cc; zone_from_law = λ h. cc }
-  placed_worked SetService p = record { point = λ h. p; credential = λ h. cc; zone_to_law = λ h. cc; zone_from_law = λ h. cc }
+  placed_worked SetDisable p = record { point = λ h. cc; credential = λ h. p; zone_to = λ h. cc; zone_from = λ h. cc }
+  placed_worked SetService p = record { point = λ h. p; credential = λ h. cc; zone_to = λ h. cc; zone_from = λ h. cc }
   placed_worked Unknown p = placed_refused site _ _
 
 -- ── the object

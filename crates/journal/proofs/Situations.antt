@@ -70,8 +70,8 @@ placed_factor site state place e x p =
     record {
       point = λ h. p;
       credential = λ h. held (named_read (gathered place e site state).situation x h) h;
-      zone_to_law = λ h. sought 1 _ site h;
-      zone_from_law = λ h. sought 1 _ site h;
+      zone_to = λ h. sought 1 _ site h;
+      zone_from = λ h. sought 1 _ site h;
     }
   where
     held : {c : CredentialId} → c ≡ number_at place e site state → eqb c.0 NONE ≡ false → seek_credential (number_at place e site state) site ≡ place_of 4 c.0 site

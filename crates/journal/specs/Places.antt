@@ -67,5 +67,5 @@ applied o at state =
 pub record Placed (site : List ℕ) (o : Outcome) (at : Places) : Type 0 where
   pub point : eqb o.point.instance.0 NONE ≡ false → at.point ≡ place_of n.access_point o.point.instance.0 site
   pub credential : eqb o.credential.instance.0 NONE ≡ false → at.credential ≡ place_of n.access_credential o.credential.instance.0 site
-  pub zone_to_law : eqb o.zone_to.instance.0 NONE ≡ false → at.zone_to ≡ place_of n.access_zone o.zone_to.instance.0 site
-  pub zone_from_law : eqb o.zone_from.instance.0 NONE ≡ false → at.zone_from ≡ place_of n.access_zone o.zone_from.instance.0 site
+  pub zone_to : eqb o.zone_to.instance.0 NONE ≡ false → at.zone_to ≡ place_of n.access_zone o.zone_to.instance.0 site
+  pub zone_from : eqb o.zone_from.instance.0 NONE ≡ false → at.zone_from ≡ place_of n.access_zone o.zone_from.instance.0 site

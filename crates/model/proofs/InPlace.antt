@@ -65,7 +65,7 @@ site_readers =
     record {
       kind_of = reads_number 32 0 1 (lit≤ tt);
       flags_of = reads_number 32 1 1 (lit≤ tt);
-      instance_of_law = reads_number 32 4 4 (lit≤ tt);
+      instance_of = reads_number 32 4 4 (lit≤ tt);
       zone_of_counting = reads_flag 0;
       zone_of_passback = reads_number 32 2 1 (lit≤ tt);
       zone_of_upper_limit = reads_number 32 8 4 (lit≤ tt);

@@ -31,7 +31,7 @@ bit_in i bytes = bit (number_in bytes) i
 pub record SiteReaders : Type 0 where
   pub kind_of : Reads record_size 0 1 Site.kind number_in
   pub flags_of : Reads record_size 1 1 Site.flags number_in
-  pub instance_of_law : Reads record_size 4 4 Site.instance number_in
+  pub instance_of : Reads record_size 4 4 Site.instance number_in
   pub zone_of_counting : Reads record_size 1 1 (λ s. (zone_of s).counting) (bit_in 0)
   pub zone_of_passback : Reads record_size 2 1 (λ s. (zone_of s).passback) number_in
   pub zone_of_upper_limit : Reads record_size 8 4 (λ s. (zone_of s).upper_limit) number_in

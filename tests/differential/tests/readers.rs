@@ -31,9 +31,6 @@ const PRIMITIVES: [(&str, usize); 8] = [
 /// The parameters of a reader: the part, and nothing else.
 const PART: &str = "part: &[u8]";
 
-/// What the name of a reader ends in among the definitions, where it would be that of a definition.
-const RENAMED: &str = "_law";
-
 /// Fewer would mean that the files are read wrongly.
 const FEWEST: usize = 70;
 
@@ -313,7 +310,6 @@ fn definitions() -> BTreeMap<String, Row> {
             module = name.to_lowercase();
         } else if let Some(member) = line.strip_prefix("  pub ") {
             let (name, text) = member.split_once(" : ").expect("a reader");
-            let name = name.strip_suffix(RENAMED).unwrap_or(name);
             let row = row_of_definition(text);
             add(&mut rows, format!("{module}::{name}"), row);
         }
