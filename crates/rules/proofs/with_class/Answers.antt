@@ -23,7 +23,9 @@ returns-then-links-eq-LONG_CHAIN c e = absurd (false≢true e)
 
 -- In a turn the chain's first record is one of the site.
 pub record_at-requires : goal.record_at-requires
-record_at-requires c = rw c.record_of-at.ensures (walk_goes_on c.args.a c.args.class (records c.args.site.now) c.loop-a.invariant.1 (sym c.may_hold.ensures ∙ c.loop-a-test.true))
+record_at-requires c =
+    let h : c.record_of-at.result < length (records c.args.site.now) = rw c.record_of-at.ensures (walk_goes_on c.args.a c.args.class (records c.args.site.now) c.loop-a.invariant.1 (sym c.may_hold.ensures ∙ c.loop-a-test.true)) in
+    omega (arith, h)
 
 pub link_of-chain-requires : goal.link_of-chain-requires
 link_of-chain-requires c =
