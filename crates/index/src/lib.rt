@@ -38,7 +38,7 @@ pub const TAGS: usize = 4;
 
 const RULE_CLASSES: usize = 4096;
 
-// What an index holds before it is built. Its two bytes differ: a fill with equal bytes becomes a call of memset, and so of another library.
+// What an index holds before it is built. Its two bytes differ, since a fill with equal bytes becomes a call of memset.
 pub const UNBUILT: u16 = 2000;
 
 // How many links of a chain are followed at most; from there on the records of the kind are tried one by one. Each link waits for the one before, so

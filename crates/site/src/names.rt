@@ -56,7 +56,7 @@ fn names_exist(site: &[u8], index: &[u16], part: &[u8]) -> bool
 
 pub(crate) fn all_names_exist(site: &[u8], index: &[u16]) -> bool
     requires indexed { Indexed site.now index.now }
-    requires site_value { all in_range (records site.now) ≡ true }
+    requires records_in_range { all in_range (records site.now) ≡ true }
     ensures { result ≡ all (Accept.names_exist (records site.now)) (records site.now) }
 {
     let n = record_count(site);

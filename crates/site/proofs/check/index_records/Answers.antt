@@ -58,7 +58,7 @@ pub all_names_exist-requires : goal.all_names_exist-requires
 all_names_exist-requires c =
     let l = c.loop-i in
     let z : l.i ≡ 0 = omega arith in
-    record { indexed = rw z at l.invariant.1; site_value = rw z at l.invariant.2 }
+    record { indexed = rw z at l.invariant.1; records_in_range = rw z at l.invariant.2 }
 
 pub returns-then-not-all_names_exist : goal.returns-then-not-all_names_exist
 unfolding records_returned is_worked

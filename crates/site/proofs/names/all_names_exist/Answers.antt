@@ -17,7 +17,7 @@ pub names_exist-requires : goal.names_exist-requires
 names_exist-requires c =
     let ss = records c.args.site.now in
     let h : c.loop-i.i < length ss = omega arith in
-    record { indexed = c.requires.indexed; part_len = (c.record_at.ensures.1, rw c.record_at.ensures.0 (all_at in_range ss c.requires.site_value c.loop-i.i h)) }
+    record { indexed = c.requires.indexed; part_len = (c.record_at.ensures.1, rw c.record_at.ensures.0 (all_at in_range ss c.requires.records_in_range c.loop-i.i h)) }
 
 pub returns-then-not-names_exist : goal.returns-then-not-names_exist
 returns-then-not-names_exist c =
