@@ -1,5 +1,5 @@
 -- The border of a part: the state records that an entry writes are all on the side of the entry's object.
-use Rattle.std.specs.Prelude.{if◌then◌else◌}
+use Rattle.std.specs.Prelude.{if◌then◌else◌, Option, Some, None}
 use Prim.Native.Nat.{ℕ}
 use mathlib.Core.Path.{◌≡◌, refl, sym, ◌∙◌, ap}
 use mathlib.Core.List.{List, [], ◌∷◌}
@@ -23,7 +23,7 @@ use Rattle.model.specs.declared.Situation.{Situation}
 use Rattle.model.specs.declared.Verdict.{Verdict}
 use Rattle.model.specs.declared.Outcome.{Outcome}
 use Rattle.model.specs.declared.Operation.{Operation}
-use Rattle.model.specs.declared.Operation.TheVariants.{Factor, SetCount, AdjustCount, SetDisable, SetService, Unknown}
+use Rattle.model.specs.declared.Operation.TheVariants.{Factor, SetCount, AdjustCount, SetDisable, SetService}
 use Rattle.model.proofs.Laws.{if_holds, and_left, and_right, kind_at, instance_at, only, only_apply, only_store_out, all_found, found}
 
 -- Two Bools that are compared equal are equal.
@@ -296,7 +296,7 @@ module _ (P : Part) where
     taken : (eqb (point_state_of x.1).waiting_credential.0 NONE ≡ true → identified_inside P (sites ps) e ≡ true) → Read ps e x
 
   pub read_as : (ps : Panel) (e : Entry) (x : Pair) → (point_of x.0).out_of_service ≡ false →
-      read_inside_as Factor P ps e x ≡ true → Read ps e x
+      read_inside_as (Some Factor) P ps e x ≡ true → Read ps e x
   unfolding identifies situation_of waiting
   read_as ps e x s g =
       go (point_of x.0).out_of_service (eqb (point_state_of x.1).waiting_credential.0 NONE) (still_locked (situation_of ps e x) e)
@@ -311,7 +311,7 @@ module _ (P : Part) where
       go false true false false s w l f g = taken (λ none. g)
 
   -- The outcome of a factor read at the point x.
-  sided_factor : (ps : Panel) (e : Entry) (x : Pair) → PointInside e.instance x → read_inside_as Factor P ps e x ≡ true →
+  sided_factor : (ps : Panel) (e : Entry) (x : Pair) → PointInside e.instance x → read_inside_as (Some Factor) P ps e x ≡ true →
       Sided (factor_outcome ps e x) (member P n.access_point e.instance)
   unfolding factor_outcome
   sided_factor ps e x h g = go (point_of x.0).out_of_service refl
@@ -339,17 +339,17 @@ module _ (P : Part) where
       record { point = refl; credential = refl; zone_to = own_side n.access_zone e.instance; zone_from = refl; waits = refl }
 
   -- The outcome of every operation at its object x.
-  sided_worked : (o : Operation) (ps : Panel) (e : Entry) (x : Pair) → is_at (object_kind o) e.instance x.0 ≡ true →
+  sided_worked : (o : Option Operation) (ps : Panel) (e : Entry) (x : Pair) → is_at (object_kind o) e.instance x.0 ≡ true →
       pair_inside x ≡ true → read_inside_as o P ps e x ≡ true → Sided (worked_outcome o ps e x) (member P (object_kind o) e.instance)
   unfolding refuse adjust_outcome disable_outcome service_outcome service_after on_side no_point no_credential no_count fresh_point
-  sided_worked Factor ps e x a h g = sided_factor ps e x (point_inside_law e.instance x a h) g
-  sided_worked SetCount ps e x a h g = sided_count e e.amount
-  sided_worked AdjustCount ps e x a h g =
+  sided_worked (Some Factor) ps e x a h g = sided_factor ps e x (point_inside_law e.instance x a h) g
+  sided_worked (Some SetCount) ps e x a h g = sided_count e e.amount
+  sided_worked (Some AdjustCount) ps e x a h g =
       if_holds (λ o. Sided o (member P n.access_zone e.instance)) (ltb n.largest_count (adjusted (count x.1) e.amount)) (refuse n.refused_count) _ (sided_unchanged _ _)
       (sided_count e _)
-  sided_worked SetDisable ps e x a h g =
+  sided_worked (Some SetDisable) ps e x a h g =
       record { point = refl; credential = own_side n.access_credential e.instance; zone_to = refl; zone_from = refl; waits = refl }
-  sided_worked SetService ps e x a h g =
+  sided_worked (Some SetService) ps e x a h g =
       record {
         point = own_side n.access_point e.instance;
         credential = refl;
@@ -359,10 +359,10 @@ module _ (P : Part) where
             if_holds (λ (c : CredentialId). on_side P n.access_credential c.0 (member P n.access_point e.instance) ≡ true) (locks e) (credential_id NONE) _ refl
             (point_inside_law e.instance x a h).waits;
       }
-  sided_worked Unknown ps e x a h g = sided_unchanged _ _
+  sided_worked None ps e x a h g = sided_unchanged _ _
 
   -- The premise on one entry with the object x: it is refused, or identifies no credential across the border.
-  unfoldable pub answered_inside_as : Operation → Panel → Entry → Pair → Bool
+  unfoldable pub answered_inside_as : Option Operation → Panel → Entry → Pair → Bool
   answered_inside_as o ps e x = not (eqb (outcome_as o ps e x).answer.refusal n.not_refused) || read_inside_as o P ps e x
 
   -- The same of an entry at a panel.
@@ -371,18 +371,18 @@ module _ (P : Part) where
       answered_inside_as (operation_of e.operation) ps e (find (object_kind (operation_of e.operation)) e.instance ps)
 
   -- So an entry that is in form, at an object that is there, identifies no credential across the border.
-  pub worked_inside : (o : Operation) (ps : Panel) (e : Entry) (x : Pair) → answered_inside_as o ps e x ≡ true → in_form o e ≡ true →
+  pub worked_inside : (o : Option Operation) (ps : Panel) (e : Entry) (x : Pair) → answered_inside_as o ps e x ≡ true → in_form o e ≡ true →
       missing x.0 ≡ false → read_inside_as o P ps e x ≡ true
   unfolding answered_inside_as outcome_as
-  worked_inside Factor ps e x g f m = rw (f, m, factor_refusal ps e x) at g
-  worked_inside SetCount ps e x g f m = refl
-  worked_inside AdjustCount ps e x g f m = refl
-  worked_inside SetDisable ps e x g f m = refl
-  worked_inside SetService ps e x g f m = refl
-  worked_inside Unknown ps e x g f m = refl
+  worked_inside (Some Factor) ps e x g f m = rw (f, m, factor_refusal ps e x) at g
+  worked_inside (Some SetCount) ps e x g f m = refl
+  worked_inside (Some AdjustCount) ps e x g f m = refl
+  worked_inside (Some SetDisable) ps e x g f m = refl
+  worked_inside (Some SetService) ps e x g f m = refl
+  worked_inside None ps e x g f m = refl
 
   -- The outcome of an entry under an operation: refused or worked.
-  sided_as : (o : Operation) (ps : Panel) (e : Entry) → all pair_inside ps ≡ true →
+  sided_as : (o : Option Operation) (ps : Panel) (e : Entry) → all pair_inside ps ≡ true →
       answered_inside_as o ps e (find (object_kind o) e.instance ps) ≡ true →
       Sided (outcome_as o ps e (find (object_kind o) e.instance ps)) (member P (object_kind o) e.instance)
   unfolding outcome_as refuse find

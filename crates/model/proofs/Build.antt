@@ -1,5 +1,6 @@
 -- Site records and entries for examples, and a journal of them from fresh. What is not given is zero, unlimited, end of time or
 -- NONE.
+use Rattle.std.specs.Prelude.{Ok}
 use Prim.Native.Nat.{ℕ, ◌*◌, ◌/◌}
 use mathlib.Core.Path.{◌≡◌}
 use mathlib.Core.List.{List, [], ◌∷◌, ◌++◌, map, flatten}
@@ -11,7 +12,6 @@ use Rattle.model.specs.Numbers.{NONE, NEVER, UNLIMITED, entry_size, answer_size}
 use Rattle.model.specs.Calls.{RunResult, fresh_state}
 use Rattle.model.specs.Lists.{event_in, answers_in, Run, History}
 use Rattle.model.specs.Print.{from_fresh}
-use Rattle.model.specs.declared.Returned.TheVariants.{WorkedThrough}
 
 -- A counting zone with its upper limit.
 unfoldable pub zone : ℕ → ℕ → List ℕ
@@ -133,7 +133,7 @@ unfoldable pub run : List (List ℕ) → Run
 run journal = record { journal = flatten journal; answers = zeros (length (flatten journal) / entry_size * answer_size) }
 
 -- Journals from fresh over a site of records.
-unfoldable pub history : (site : List (List ℕ)) → List (List (List ℕ)) → (fresh_state (flatten site) (zeros (length (flatten site)))).returned ≡ WorkedThrough → History
+unfoldable pub history : (site : List (List ℕ)) → List (List (List ℕ)) → (fresh_state (flatten site) (zeros (length (flatten site)))).returned ≡ Ok tt → History
 history site journals accepted =
     record {
       site = flatten site;

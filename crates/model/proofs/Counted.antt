@@ -1,5 +1,5 @@
 -- Demand 3, the count: after every list of runs from fresh a zone's count is T less the smaller of zero and L.
-use Rattle.std.specs.Prelude.{if◌then◌else◌}
+use Rattle.std.specs.Prelude.{if◌then◌else◌, Option, Some, None}
 use Prim.Native.Nat.{ℕ, ◌+◌, ◌-◌}
 use mathlib.Core.Path.{◌≡◌, refl, sym, ap}
 use mathlib.Core.List.{List, [], ◌∷◌, map}
@@ -24,7 +24,7 @@ use Rattle.model.specs.declared.Entry.{Entry}
 use Rattle.model.specs.declared.Answer.{Answer}
 use Rattle.model.specs.declared.Outcome.{Outcome}
 use Rattle.model.specs.declared.Operation.{Operation}
-use Rattle.model.specs.declared.Operation.TheVariants.{Factor, SetCount, AdjustCount, SetDisable, SetService, Unknown}
+use Rattle.model.specs.declared.Operation.TheVariants.{Factor, SetCount, AdjustCount, SetDisable, SetService}
 use Rattle.model.proofs.Laws.{if_holds, kind_at, There, find_in_sites, found, sites_write, sites_apply, find_write_other, find_write_same, all_found_in, found_in}
 use Rattle.model.proofs.Outcomes.{entry_holds}
 use Rattle.model.proofs.RoundTrip.{count_back, event_back, refusal_back}
@@ -140,23 +140,23 @@ passage_if true true false s t = refl
 -- The entry e at the panel ps, where the count of zone z is the standing of the tally t.
 module _ (z : ℕ) (not_none : eqb z NONE ≡ false) (ps : Panel) (t : Tally) (h : pos (zone_count z ps) ≡ standing t) (e : Entry) where
   -- The count after the outcome is the standing of the tally that its answer makes.
-  Fits : Operation → Outcome → Type 0
+  Fits : Option Operation → Outcome → Type 0
   Fits o u =
       pos (count_by z u (zone_count z ps)) ≡ standing (tallied_as o z (sites ps) e u.answer.event u.answer.refusal t)
 
   -- Of an `if`: both of its outcomes.
   -- A refusal.
-  fits_refuse : (r : ℕ) → eqb r n.not_refused ≡ false → (o : Operation) → Fits o (refuse r)
+  fits_refuse : (r : ℕ) → eqb r n.not_refused ≡ false → (o : Option Operation) → Fits o (refuse r)
   unfolding Fits count_by refuse unchanged no_count
-  fits_refuse r d Factor = h
-  fits_refuse r d SetCount = rw d h
-  fits_refuse r d AdjustCount = rw d h
-  fits_refuse r d SetDisable = h
-  fits_refuse r d SetService = h
-  fits_refuse r d Unknown = h
+  fits_refuse r d (Some Factor) = h
+  fits_refuse r d (Some SetCount) = rw d h
+  fits_refuse r d (Some AdjustCount) = rw d h
+  fits_refuse r d (Some SetDisable) = h
+  fits_refuse r d (Some SetService) = h
+  fits_refuse r d None = h
 
   -- Operation 2.
-  fits_set : Fits SetCount (count_outcome e e.amount)
+  fits_set : Fits (Some SetCount) (count_outcome e e.amount)
   unfolding Fits count_by count_outcome no_count
   fits_set = go (eqb e.instance z)
     where
@@ -165,11 +165,11 @@ module _ (z : ℕ) (not_none : eqb z NONE ≡ false) (ps : Panel) (t : Tally) (h
       go false = h
 
   -- Operation 3: m is the count of the zone that the entry names.
-  fits_adjust : (m : ℕ) → (eqb e.instance z ≡ true → m ≡ zone_count z ps) → Fits AdjustCount (adjust_outcome e m)
+  fits_adjust : (m : ℕ) → (eqb e.instance z ≡ true → m ≡ zone_count z ps) → Fits (Some AdjustCount) (adjust_outcome e m)
   unfolding Fits count_by adjust_outcome count_outcome no_count
   fits_adjust m s =
-      if_holds (Fits AdjustCount) (ltb n.largest_count (adjusted m e.amount)) (refuse n.refused_count) (count_outcome e (adjusted m e.amount))
-      (fits_refuse n.refused_count refl AdjustCount) (go (eqb e.instance z) refl)
+      if_holds (Fits (Some AdjustCount)) (ltb n.largest_count (adjusted m e.amount)) (refuse n.refused_count) (count_outcome e (adjusted m e.amount))
+      (fits_refuse n.refused_count refl (Some AdjustCount)) (go (eqb e.instance z) refl)
     where
       go : (c : Bool) → eqb e.instance z ≡ c →
           pos (if c then adjusted m e.amount else zone_count z ps) ≡ standing (if c then move (signed e.amount) t else t)
@@ -185,7 +185,7 @@ module _ (z : ℕ) (not_none : eqb z NONE ≡ false) (ps : Panel) (t : Tally) (h
 
   -- Operation 1: any event x at the point's records p.
   fits_outcome : (p : Pair) (x : ℕ) → find_in (is_point e.instance) (sites ps) ≡ p.0 →
-      eqb (point_of p.0).zone_to.0 z && eqb (point_of p.0).zone_from.0 z ≡ false → Fits Factor (outcome_of (situation_of ps e p) e x)
+      eqb (point_of p.0).zone_to.0 z && eqb (point_of p.0).zone_from.0 z ≡ false → Fits (Some Factor) (outcome_of (situation_of ps e p) e x)
   unfolding Fits count_by outcome_of outcome_with answer_with count_after counts passed situation_of zone_to zone_from
   fits_outcome p x f d =
       rw (f, passage_if)
@@ -193,19 +193,19 @@ module _ (z : ℕ) (not_none : eqb z NONE ≡ false) (ps : Panel) (t : Tally) (h
       (eqb (point_of p.0).zone_from.0 z) _ _ _ _ _ (same_zone (point_of p.0).zone_to.0) (same_zone (point_of p.0).zone_from.0) d)
 
   -- The operation at its object's records x.
-  fits_worked : all in_range (sites ps) ≡ true → (o : Operation) (x : Pair) → find (object_kind o) e.instance ps ≡ x →
+  fits_worked : all in_range (sites ps) ≡ true → (o : Option Operation) (x : Pair) → find (object_kind o) e.instance ps ≡ x →
       is_at (object_kind o) e.instance x.0 ≡ true → missing x.0 ≡ false → Fits o (worked_outcome o ps e x)
   unfolding Fits count_by find factor_outcome disable_outcome service_outcome unchanged refuse no_count zone_count
-  fits_worked a Factor x f p g =
+  fits_worked a (Some Factor) x f p g =
       let s : find_in (is_point e.instance) (sites ps) ≡ x.0 = rw (← find_in_sites (is_point e.instance) ps, f) in
       let r : in_range x.0 ≡ true = rw s at (all_found_in in_range (is_point e.instance) (sites ps) a (rw s g)) in
-      if_holds (Fits Factor) (point_of x.0).out_of_service _ _ h
+      if_holds (Fits (Some Factor)) (point_of x.0).out_of_service _ _ h
       (fits_outcome x (event_of (situation_of ps e x) (rules_at ps e x) e) s (zones_differ z not_none e.instance x.0 p r))
-  fits_worked a SetCount x f p g = fits_set
-  fits_worked a AdjustCount x f p g = fits_adjust (count x.1) (λ q. rw (← f, eqb-true e.instance z q))
-  fits_worked a SetDisable x f p g = h
-  fits_worked a SetService x f p g = h
-  fits_worked a Unknown x f p g = h
+  fits_worked a (Some SetCount) x f p g = fits_set
+  fits_worked a (Some AdjustCount) x f p g = fits_adjust (count x.1) (λ q. rw (← f, eqb-true e.instance z q))
+  fits_worked a (Some SetDisable) x f p g = h
+  fits_worked a (Some SetService) x f p g = h
+  fits_worked a None x f p g = h
 
   -- Any entry.
   fits_entry : all in_range (sites ps) ≡ true → Fits (operation_of e.operation) (entry_outcome ps e)

@@ -1,5 +1,5 @@
 -- Day passes: last grant, and days left beside the dates of the credential's grants, after every list of runs from fresh.
-use Rattle.std.specs.Prelude.{if◌then◌else◌}
+use Rattle.std.specs.Prelude.{if◌then◌else◌, Option, Some, None}
 use Prim.Native.Nat.{ℕ, suc, ◌+◌, ◌-◌, ◌/◌, ◌<◌}
 use native.Mathlib.Omega.{arith}
 use mathlib.Core.Path.{◌≡◌, refl, ◌∙◌}
@@ -24,7 +24,7 @@ use Rattle.model.specs.declared.Entry.{Entry}
 use Rattle.model.specs.declared.Outcome.{Outcome}
 use Rattle.model.specs.declared.CredentialState.{CredentialState}
 use Rattle.model.specs.declared.Operation.{Operation}
-use Rattle.model.specs.declared.Operation.TheVariants.{Factor, SetCount, AdjustCount, SetDisable, SetService, Unknown}
+use Rattle.model.specs.declared.Operation.TheVariants.{Factor, SetCount, AdjustCount, SetDisable, SetService}
 use Rattle.model.proofs.Laws.{if_holds, and_left, and_right, There, sites_apply}
 use Rattle.model.proofs.Outcomes.{entry_holds}
 use Rattle.model.proofs.RoundTrip.{event_back, credential_named_back}
@@ -83,12 +83,12 @@ module _ (c : ℕ) (not_none : eqb c NONE ≡ false) (e : Entry) where
           }
 
   -- "time never" is refused.
-  timed : (o : Operation) → in_form o e ≡ true → eqb e.time NEVER ≡ false
+  timed : (o : Option Operation) → in_form o e ≡ true → eqb e.time NEVER ≡ false
   unfolding in_form
   timed o f = not-true (eqb e.time NEVER) (and_right (arguments_fit o e && eqb e.spare 0 && ltb e.instance NONE) _ f)
 
   -- Operation 1, at the point's records x.
-  leaves_factor : (ps : Panel) (x : Pair) → in_form Factor e ≡ true → Leaves c e (held c ps) (factor_outcome ps e x)
+  leaves_factor : (ps : Panel) (x : Pair) → in_form (Some Factor) e ≡ true → Leaves c e (held c ps) (factor_outcome ps e x)
   unfolding factor_outcome unchanged
   leaves_factor ps x f =
       let v = situation_of ps e x in
@@ -96,7 +96,7 @@ module _ (c : ℕ) (not_none : eqb c NONE ≡ false) (e : Entry) where
       if_holds (Leaves c e (held c ps)) (point_of x.0).out_of_service (unchanged _) (outcome_of v e event)
       (leaves_none c e (held c ps) (unchanged _) refl refl)
       (leaves_event v (held c ps) event (λ p. state_read c not_none e ps x (named_number c not_none v event p))
-      (λ p q. (timed Factor f, rw (state_read c not_none e ps x (named_number c not_none v event p)) at (granted_days ps e x (eqb-true event 1 q)))))
+      (λ p q. (timed (Some Factor) f, rw (state_read c not_none e ps x (named_number c not_none v event p)) at (granted_days ps e x (eqb-true event 1 q)))))
 
   -- Operation 4, at the records x of the credential that it names.
   leaves_disable : (ps : Panel) (x : Pair) → find n.access_credential e.instance ps ≡ x →
@@ -111,18 +111,18 @@ module _ (c : ℕ) (not_none : eqb c NONE ≡ false) (e : Entry) where
       go false p = record { days = rw p; last = rw p; known = λ g. absurd (false≢true g) }
 
   -- The operation at its object's records x.
-  leaves_worked : (ps : Panel) (o : Operation) (x : Pair) → find (object_kind o) e.instance ps ≡ x → in_form o e ≡ true →
+  leaves_worked : (ps : Panel) (o : Option Operation) (x : Pair) → find (object_kind o) e.instance ps ≡ x → in_form o e ≡ true →
       Leaves c e (held c ps) (worked_outcome o ps e x)
   unfolding count_outcome adjust_outcome service_outcome
-  leaves_worked ps Factor x f i = leaves_factor ps x i
-  leaves_worked ps SetCount x f i = leaves_none c e (held c ps) (count_outcome e _) refl refl
-  leaves_worked ps AdjustCount x f i =
+  leaves_worked ps (Some Factor) x f i = leaves_factor ps x i
+  leaves_worked ps (Some SetCount) x f i = leaves_none c e (held c ps) (count_outcome e _) refl refl
+  leaves_worked ps (Some AdjustCount) x f i =
       if_holds (Leaves c e (held c ps)) (ltb _ (adjusted _ e.amount)) (refuse _) (count_outcome e _)
       (leaves_refuse c e (held c ps) _) (leaves_none c e (held c ps) (count_outcome e _) refl refl)
-  leaves_worked ps SetDisable x f i = leaves_disable ps x f
-  leaves_worked ps SetService x f i =
+  leaves_worked ps (Some SetDisable) x f i = leaves_disable ps x f
+  leaves_worked ps (Some SetService) x f i =
       leaves_none c e (held c ps) (service_outcome e _ _) refl (if_holds (λ k. eqb k n.granted ≡ false) (locks e) 7 8 refl refl)
-  leaves_worked ps Unknown x f i = leaves_refuse c e (held c ps) _
+  leaves_worked ps None x f i = leaves_refuse c e (held c ps) _
 
   -- Any entry.
   leaves_entry : (ps : Panel) → Leaves c e (held c ps) (entry_outcome ps e)

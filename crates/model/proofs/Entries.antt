@@ -1,5 +1,5 @@
 -- The i-th entry of a run that is worked: the state that it finds, and its answer.
-use Rattle.std.specs.Prelude.{if◌then◌else◌}
+use Rattle.std.specs.Prelude.{if◌then◌else◌, Ok, Err}
 use Prim.Native.Nat.{ℕ, zero, suc, ◌+◌, ◌*◌, ◌/◌, ◌%◌, ◌≤◌, ◌<◌}
 use native.Mathlib.Omega.{arith}
 use native.Mathlib.Nat.{zero-add, suc-add, suc-mul, add_comm}
@@ -15,13 +15,12 @@ use Rattle.octets.proofs.Groups.{length_groups}
 use Rattle.model.specs.State.{Panel, panel, state_of, well_formed}
 use Rattle.model.specs.Entry.{entry_of, entries, answer_bytes}
 use Rattle.model.specs.Step.{apply, entry_outcome, after, answers}
-use Rattle.model.specs.Calls.{is_worked, fresh_returned, check_state, run_returned, run_journal}
+use Rattle.model.specs.Calls.{Returned, is_worked, fresh_returned, check_state, run_returned, run_journal}
 use Rattle.model.specs.Lists.{Run, run_on, answers_in, first_of}
 use Rattle.model.proofs.Laws.{or_left, or_right}
 use Rattle.model.proofs.Runs.{passed_check, worked_through, site_accepted, site_worked, answers_back}
 use Rattle.model.specs.declared.Entry.{Entry}
-use Rattle.model.specs.declared.Returned.{Returned}
-use Rattle.model.specs.declared.Returned.TheVariants.{WorkedThrough, StateLength, StateForm, JournalLength, AnswersLength}
+use Rattle.model.specs.declared.Refusal.TheVariants.{StateLength, StateForm, JournalLength, AnswersLength}
 
 -- ── what a worked run passed
 
@@ -31,7 +30,7 @@ unfolding fresh_returned is_worked
 lengths site state w =
     let f = worked_through (fresh_returned site state) w in
     let s = site_worked site state f in
-    let p = passed_check (not (eqb (length state) (length site))) StateLength WorkedThrough refl (rw s at f) in
+    let p = passed_check (not (eqb (length state) (length site))) (Err StateLength) (Ok tt) refl (rw s at f) in
     ((site_accepted site s).whole_records, eqb-true (length state) (length site) (not-false _ p.0))
 
 pub record RunAccepted (site state : List ℕ) (r : Run) : Type 0 where
@@ -42,11 +41,11 @@ pub record RunAccepted (site state : List ℕ) (r : Run) : Type 0 where
   pub answers_length : length r.answers ≡ length r.journal / 24 * 16
 
 -- A check that is made first hands on what it returns.
-pub first_passed : (first next : Returned) → (if not (is_worked first) then first else next) ≡ WorkedThrough → (is_worked first ≡ true) × (next ≡ WorkedThrough)
+pub first_passed : (first next : Returned) → (if not (is_worked first) then first else next) ≡ Ok tt → (is_worked first ≡ true) × (next ≡ Ok tt)
 unfolding is_worked
 first_passed first next h = go (is_worked first) refl h
   where
-    go : (c : Bool) → is_worked first ≡ c → (if not c then first else next) ≡ WorkedThrough → (is_worked first ≡ true) × (next ≡ WorkedThrough)
+    go : (c : Bool) → is_worked first ≡ c → (if not c then first else next) ≡ Ok tt → (is_worked first ≡ true) × (next ≡ Ok tt)
     go true w h = (w, h)
     go false w h = let z : true ≡ false = rw h at w in (cc, cc)
 
@@ -55,9 +54,9 @@ unfolding run_on run_journal run_returned check_state is_worked
 run_accepted site state r w =
     let s = first_passed (check_state site state) _ (worked_through (run_returned site state r.journal r.answers) w) in
     let f = first_passed (fresh_returned site state) _ (worked_through (check_state site state) s.0) in
-    let g = passed_check (not (well_formed site state)) StateForm _ refl f.1 in
-    let j = passed_check (not (eqb (length r.journal % 24) 0) || ltb 65520 (length r.journal)) JournalLength _ refl s.1 in
-    let a = passed_check (not (eqb (length r.answers) (length r.journal / 24 * 16))) AnswersLength _ refl j.1 in
+    let g = passed_check (not (well_formed site state)) (Err StateForm) _ refl f.1 in
+    let j = passed_check (not (eqb (length r.journal % 24) 0) || ltb 65520 (length r.journal)) (Err JournalLength) _ refl s.1 in
+    let a = passed_check (not (eqb (length r.answers) (length r.journal / 24 * 16))) (Err AnswersLength) _ refl j.1 in
     record {
       fresh_worked = f.0;
       well = not-false (well_formed site state) g.0;

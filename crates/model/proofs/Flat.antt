@@ -1,5 +1,5 @@
 -- Site and state as bytes, and as a panel of records: each gives the other back.
-use Rattle.std.specs.Prelude.{if◌then◌else◌}
+use Rattle.std.specs.Prelude.{if◌then◌else◌, Option, Some, None}
 use Prim.Native.Nat.{ℕ, zero, suc, ◌+◌, ◌*◌, ◌/◌, ◌%◌, ◌<◌}
 use native.Mathlib.Omega.{arith}
 use mathlib.Core.Path.{◌≡◌, refl, sym, ◌∙◌, ap}
@@ -20,7 +20,7 @@ use Rattle.model.proofs.RoundTrip.{length_zone, length_point, length_credential}
 use Rattle.model.specs.declared.Entry.{Entry}
 use Rattle.model.specs.declared.Outcome.{Outcome}
 use Rattle.model.specs.declared.RecordKind.{RecordKind}
-use Rattle.model.specs.declared.RecordKind.TheVariants.{OfZone, OfPoint, OfRule, OfCredential, OfFactor, OfUnknown}
+use Rattle.model.specs.declared.RecordKind.TheVariants.{OfZone, OfPoint, OfRule, OfCredential, OfFactor}
 
 -- ── lists of groups of one size
 
@@ -189,13 +189,13 @@ pub length_fresh_record_law : (s : List ℕ) → length (fresh_record s) ≡ 32
 unfolding fresh_record
 length_fresh_record_law s = go (record_kind s)
   where
-    go : (k : RecordKind) → length (fresh_record_as k s) ≡ 32
-    go OfZone = refl
-    go OfPoint = length_point fresh_point
-    go OfRule = refl
-    go OfCredential = length_credential (fresh_credential s)
-    go OfFactor = refl
-    go OfUnknown = refl
+    go : (k : Option RecordKind) → length (fresh_record_as k s) ≡ 32
+    go (Some OfZone) = refl
+    go (Some OfPoint) = length_point fresh_point
+    go (Some OfRule) = refl
+    go (Some OfCredential) = length_credential (fresh_credential s)
+    go (Some OfFactor) = refl
+    go None = refl
 
 whole_fresh : (k : ℕ) (site : List ℕ) → length site ≡ k * 32 → all whole (fresh_panel (groups 32 k site)) ≡ true
 unfolding groups whole

@@ -1,5 +1,5 @@
 -- A grant is earned: what the order of checks passed where it comes to event 1.
-use Rattle.std.specs.Prelude.{if◌then◌else◌}
+use Rattle.std.specs.Prelude.{if◌then◌else◌, Option, Some, None}
 use Prim.Native.Nat.{ℕ, ◌≤◌, ◌<◌}
 use native.Mathlib.Omega.{arith}
 use mathlib.Core.Path.{◌≡◌, refl, sym, ◌∙◌, ap}
@@ -37,7 +37,7 @@ use Rattle.model.specs.declared.Verdict.{Verdict}
 use Rattle.model.specs.declared.Entry.{Entry}
 use Rattle.model.specs.declared.Outcome.{Outcome}
 use Rattle.model.specs.declared.Operation.{Operation}
-use Rattle.model.specs.declared.Operation.TheVariants.{Factor, SetCount, AdjustCount, SetDisable, SetService, Unknown}
+use Rattle.model.specs.declared.Operation.TheVariants.{Factor, SetCount, AdjustCount, SetDisable, SetService}
 
 -- ── a chain that comes to 1 passed each check whose event is not 1
 
@@ -360,16 +360,16 @@ unfolding rules_at situation_of said
 granted_enabled ps e p h = (passed_all (situation_of ps e p) (sites ps) e h).is_valid.not_lockout
 
 -- An entry that is answered with event 1: a factor read at a point in service, whose order of checks came to 1.
-record Grant (o : Operation) (ps : Panel) (e : Entry) (x : Pair) (credential : CredentialId) : Type 0 where
-  is_factor : o ≡ Factor
+record Grant (o : Option Operation) (ps : Panel) (e : Entry) (x : Pair) (credential : CredentialId) : Type 0 where
+  is_factor : o ≡ (Some Factor)
   in_service : (point_of x.0).out_of_service ≡ false
   event : event_of (situation_of ps e x) (rules_at ps e x) e ≡ 1
   number : credential ≡ number_read ps e x
 
-Granting : Operation → Panel → Entry → Pair → Outcome → Type 0
+Granting : Option Operation → Panel → Entry → Pair → Outcome → Type 0
 Granting o ps e x u = u.answer.event ≡ 1 → Grant o ps e x u.answer.credential
 
-granting_refuse : (n : ℕ) (o : Operation) (ps : Panel) (e : Entry) (x : Pair) → Granting o ps e x (refuse n)
+granting_refuse : (n : ℕ) (o : Option Operation) (ps : Panel) (e : Entry) (x : Pair) → Granting o ps e x (refuse n)
 unfolding Granting refuse unchanged
 granting_refuse n o ps e x h = absurd (omega arith)
 
@@ -379,7 +379,7 @@ unfolding named
 named_one v x h = rw (h, and-false (not (waiting v)))
 
 granting_outcome : (ps : Panel) (e : Entry) (x : Pair) → (point_of x.0).out_of_service ≡ false →
-    Granting Factor ps e x (outcome_of (situation_of ps e x) e (event_of (situation_of ps e x) (rules_at ps e x) e))
+    Granting (Some Factor) ps e x (outcome_of (situation_of ps e x) e (event_of (situation_of ps e x) (rules_at ps e x) e))
 unfolding Granting outcome_of outcome_with answer_with
 granting_outcome ps e x s h =
     record {
@@ -389,26 +389,26 @@ granting_outcome ps e x s h =
       number = named_one (situation_of ps e x) (event_of (situation_of ps e x) (rules_at ps e x) e) h ∙ (unfold situation_of in refl);
     }
 
-granting_factor : (ps : Panel) (e : Entry) (x : Pair) → Granting Factor ps e x (factor_outcome ps e x)
+granting_factor : (ps : Panel) (e : Entry) (x : Pair) → Granting (Some Factor) ps e x (factor_outcome ps e x)
 unfolding Granting factor_outcome unchanged
 granting_factor ps e x = go (point_of x.0).out_of_service refl
   where
     go : (c : Bool) → (point_of x.0).out_of_service ≡ c →
-        Granting Factor ps e x
+        Granting (Some Factor) ps e x
         (if c then unchanged (no_answer 0 (point_state_of x.1).tag (count (zone_to ps x).1))
         else outcome_of (situation_of ps e x) e (event_of (situation_of ps e x) (rules_at ps e x) e))
     go true s = λ h. absurd (omega arith)
     go false s = granting_outcome ps e x s
 
-granting_worked : (o : Operation) (ps : Panel) (e : Entry) (x : Pair) → Granting o ps e x (worked_outcome o ps e x)
+granting_worked : (o : Option Operation) (ps : Panel) (e : Entry) (x : Pair) → Granting o ps e x (worked_outcome o ps e x)
 unfolding Granting count_outcome adjust_outcome disable_outcome service_outcome
-granting_worked Factor ps e x = granting_factor ps e x
-granting_worked SetCount ps e x = λ h. absurd (omega arith)
-granting_worked AdjustCount ps e x =
-    if_holds (Granting AdjustCount ps e x) (ltb _ (adjusted _ e.amount)) (refuse _) (count_outcome e _) (granting_refuse _ AdjustCount ps e x) (λ h. absurd (omega arith))
-granting_worked SetDisable ps e x = λ h. absurd (omega arith)
-granting_worked SetService ps e x = λ h. absurd (either (locks e) 7 8 (λ z. omega arith) (λ z. omega arith) h)
-granting_worked Unknown ps e x = granting_refuse _ Unknown ps e x
+granting_worked (Some Factor) ps e x = granting_factor ps e x
+granting_worked (Some SetCount) ps e x = λ h. absurd (omega arith)
+granting_worked (Some AdjustCount) ps e x =
+    if_holds (Granting (Some AdjustCount) ps e x) (ltb _ (adjusted _ e.amount)) (refuse _) (count_outcome e _) (granting_refuse _ (Some AdjustCount) ps e x) (λ h. absurd (omega arith))
+granting_worked (Some SetDisable) ps e x = λ h. absurd (omega arith)
+granting_worked (Some SetService) ps e x = λ h. absurd (either (locks e) 7 8 (λ z. omega arith) (λ z. omega arith) h)
+granting_worked None ps e x = granting_refuse _ None ps e x
 
 granting_entry : (ps : Panel) (e : Entry) → Granting (operation_of e.operation) ps e (find (object_kind (operation_of e.operation)) e.instance ps) (entry_outcome ps e)
 granting_entry ps e =
@@ -417,7 +417,7 @@ granting_entry ps e =
 
 -- At a panel whose state is well formed.
 earned_entry : (ps : Panel) (e : Entry) → all (record_well (sites ps)) ps ≡ true → (entry_outcome ps e).answer.event ≡ 1 →
-    (operation_of e.operation ≡ Factor) × Earned ps e (entry_outcome ps e).answer.credential
+    (operation_of e.operation ≡ (Some Factor)) × Earned ps e (entry_outcome ps e).answer.credential
 unfolding Earned Granting
 earned_entry ps e w h =
     let g = granting_entry ps e h in

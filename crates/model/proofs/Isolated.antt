@@ -1,5 +1,5 @@
 -- An entry of the part reads the part's records alone: its outcome at the panel is its outcome at them.
-use Rattle.std.specs.Prelude.{if◌then◌else◌}
+use Rattle.std.specs.Prelude.{if◌then◌else◌, Option, Some, None}
 use Prim.Native.Nat.{ℕ}
 use mathlib.Core.Path.{◌≡◌, refl, sym, ◌∙◌, ap}
 use mathlib.Core.List.{List, [], ◌∷◌}
@@ -23,7 +23,7 @@ use Rattle.model.specs.declared.CredentialId.{CredentialId}
 use Rattle.model.specs.declared.RightsId.{RightsId}
 use Rattle.model.specs.declared.Entry.{Entry}
 use Rattle.model.specs.declared.Operation.{Operation}
-use Rattle.model.specs.declared.Operation.TheVariants.{Factor, SetCount, AdjustCount, SetDisable, SetService, Unknown}
+use Rattle.model.specs.declared.Operation.TheVariants.{Factor, SetCount, AdjustCount, SetDisable, SetService}
 use Rattle.model.proofs.Laws.{and_left, and_right, kind_at, only, find_only, find_keep, any_keep, sites_only, all_found, found}
 use Rattle.model.proofs.Border.{beq_is, side_is, none_side, holds_at, wait_inside, pair_inside, PointInside, point_inside_law, number_side, stopped, stopped_event, stopped_event_law, nobody, Alike, alike_same, stopped_alike, Read, halted, taken, read_as, answered_inside_as, answered_inside, worked_inside}
 
@@ -230,7 +230,7 @@ module _ (P : Part) where
         })
 
     -- The outcome.
-    factor_outcome_part : all (pair_inside P) ps ≡ true → read_inside_as Factor P ps e x ≡ true →
+    factor_outcome_part : all (pair_inside P) ps ≡ true → read_inside_as (Some Factor) P ps e x ≡ true →
         Alike (factor_outcome (only (holds P) ps) e x) (factor_outcome ps e x)
     unfolding factor_outcome
     factor_outcome_part a g = rw zone_to_part (go (point_of x.0).out_of_service refl)
@@ -254,19 +254,19 @@ module _ (P : Part) where
   -- ── an entry of the part
 
   -- Every operation at its object x.
-  worked_part : (o : Operation) (ps : Panel) (e : Entry) (x : Pair) → all (pair_inside P) ps ≡ true →
+  worked_part : (o : Option Operation) (ps : Panel) (e : Entry) (x : Pair) → all (pair_inside P) ps ≡ true →
       is_at (object_kind o) e.instance x.0 ≡ true → pair_inside P x ≡ true → read_inside_as o P ps e x ≡ true →
       member P (object_kind o) e.instance ≡ true →
       Alike (worked_outcome o (only (holds P) ps) e x) (worked_outcome o ps e x)
-  worked_part Factor ps e x a q h g m = factor_outcome_part ps e x m (point_inside_law P e.instance x q h) a g
-  worked_part SetCount ps e x a q h g m = alike_same refl
-  worked_part AdjustCount ps e x a q h g m = alike_same refl
-  worked_part SetDisable ps e x a q h g m = alike_same refl
-  worked_part SetService ps e x a q h g m = alike_same (rw (zone_to_part ps e x m (point_inside_law P e.instance x q h)))
-  worked_part Unknown ps e x a q h g m = alike_same refl
+  worked_part (Some Factor) ps e x a q h g m = factor_outcome_part ps e x m (point_inside_law P e.instance x q h) a g
+  worked_part (Some SetCount) ps e x a q h g m = alike_same refl
+  worked_part (Some AdjustCount) ps e x a q h g m = alike_same refl
+  worked_part (Some SetDisable) ps e x a q h g m = alike_same refl
+  worked_part (Some SetService) ps e x a q h g m = alike_same (rw (zone_to_part ps e x m (point_inside_law P e.instance x q h)))
+  worked_part None ps e x a q h g m = alike_same refl
 
   -- An entry under an operation: refused or worked.
-  as_part : (o : Operation) (ps : Panel) (e : Entry) → all (pair_inside P) ps ≡ true →
+  as_part : (o : Option Operation) (ps : Panel) (e : Entry) → all (pair_inside P) ps ≡ true →
       answered_inside_as P o ps e (find (object_kind o) e.instance ps) ≡ true → member P (object_kind o) e.instance ≡ true →
       Alike (outcome_as o (only (holds P) ps) e (find (object_kind o) e.instance ps)) (outcome_as o ps e (find (object_kind o) e.instance ps))
   unfolding outcome_as find

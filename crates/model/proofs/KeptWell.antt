@@ -1,5 +1,5 @@
 -- A panel never turns back its own state: it is well formed after every list of runs from fresh, and no run returns 6.
-use Rattle.std.specs.Prelude.{if◌then◌else◌}
+use Rattle.std.specs.Prelude.{if◌then◌else◌, Ok, Err}
 use Prim.Native.Nat.{ℕ, ◌*◌, ◌/◌, ◌%◌}
 use mathlib.Core.Path.{◌≡◌, refl, ap₂}
 use mathlib.Core.List.{List, [], ◌∷◌, ◌++◌, map}
@@ -12,7 +12,7 @@ use Rattle.model.specs.Numbers as n
 use Rattle.model.specs.Site.{records}
 use Rattle.model.specs.State.{panel, fresh, well_formed}
 use Rattle.model.specs.Entry.{entry_of}
-use Rattle.model.specs.Calls.{is_worked, check_site, fresh_returned, fresh_state, check_state, run_returned, run_journal}
+use Rattle.model.specs.Calls.{Returned, is_worked, check_site, fresh_returned, fresh_state, check_state, run_returned, run_journal}
 use Rattle.model.specs.Lists.{Run, run_on, state_after, returns, History, begun, ended}
 use Rattle.model.specs.Demands.{returns_other, WellFormed}
 use Rattle.model.proofs.Open.{definitions}
@@ -21,8 +21,7 @@ use Rattle.model.proofs.Runs.{passed_check, site_accepted, worked_through, site_
 use Rattle.model.proofs.Entries.{lengths, first_passed}
 use Rattle.model.proofs.Well.{well_fresh}
 use Rattle.model.proofs.WellStep.{well_after}
-use Rattle.model.specs.declared.Returned.{Returned}
-use Rattle.model.specs.declared.Returned.TheVariants.{WorkedThrough, StateForm, JournalLength, AnswersLength}
+use Rattle.model.specs.declared.Refusal.TheVariants.{StateForm, JournalLength, AnswersLength}
 
 -- What a run on a well-formed state of an accepted site returns: its journal and its answers alone decide, as on the empty site.
 abbrev pub run_returns : Run → Returned
@@ -35,26 +34,26 @@ run_entries (r ∷ rs) = entries_by [] [] r ++ run_entries rs
 
 -- A state that a run takes: its site is accepted, and it is as long as the site and well formed.
 pub record Taken (site state : List ℕ) : Type 0 where
-  pub site_accepts : check_site site ≡ WorkedThrough
+  pub site_accepts : check_site site ≡ Ok tt
   pub as_long : length state ≡ length site
   pub well : well_formed site state ≡ true
 
-pub state_taken : (site state : List ℕ) → check_state site state ≡ WorkedThrough → Taken site state
+pub state_taken : (site state : List ℕ) → check_state site state ≡ Ok tt → Taken site state
 unfolding check_state is_worked
 state_taken site state h =
     let f = first_passed (fresh_returned site state) _ h in
     record {
       site_accepts = site_worked site state (worked_through (fresh_returned site state) f.0);
       as_long = (lengths site state f.0).1;
-      well = not-false _ (passed_check (not (well_formed site state)) StateForm WorkedThrough refl f.1).0;
+      well = not-false _ (passed_check (not (well_formed site state)) (Err StateForm) (Ok tt) refl f.1).0;
     }
 
-pub taken_state : (site state : List ℕ) → Taken site state → check_state site state ≡ WorkedThrough
+pub taken_state : (site state : List ℕ) → Taken site state → check_state site state ≡ Ok tt
 unfolding check_state fresh_returned is_worked
 taken_state site state t = rw (t.site_accepts, t.as_long, eq-eqb (length site) (length site) refl, t.well)
 
 -- The empty site has such a state.
-empty_taken : check_state [] [] ≡ WorkedThrough
+empty_taken : check_state [] [] ≡ Ok tt
 unfolding definitions
 empty_taken = refl
 
@@ -91,7 +90,7 @@ list_well site (r ∷ rs) state t =
     record { left = rest.left; returned = ap₂ ◌∷◌ first rest.returned; entered = rw (first, rest.entered) }
 
 -- None of them returns 6.
-none_state_form : (rs : List Run) → all (returns_other StateForm) (map run_returns rs) ≡ true
+none_state_form : (rs : List Run) → all (returns_other (Err StateForm)) (map run_returns rs) ≡ true
 unfolding run_on run_journal run_returned is_worked
 none_state_form [] = refl
 none_state_form (r ∷ rs) =
@@ -99,13 +98,13 @@ none_state_form (r ∷ rs) =
     (go (not (eqb (length r.journal % n.entry_size) 0) || ltb n.largest_journal (length r.journal))
     (not (eqb (length r.answers) (length r.journal / n.entry_size * n.answer_size))))
   where
-    go : (a b : Bool) → returns_other StateForm (if a then JournalLength else if b then AnswersLength else WorkedThrough) && true ≡ true
+    go : (a b : Bool) → returns_other (Err StateForm) (if a then Err JournalLength else if b then Err AnswersLength else Ok tt) && true ≡ true
     go true b = refl
     go false true = refl
     go false false = refl
 
 -- Fresh is such a state of every accepted site.
-pub fresh_taken : (site : List ℕ) → check_site site ≡ WorkedThrough → Taken site (fresh site)
+pub fresh_taken : (site : List ℕ) → check_site site ≡ Ok tt → Taken site (fresh site)
 unfolding well_formed
 fresh_taken site accept =
     let a = site_accepted site accept in

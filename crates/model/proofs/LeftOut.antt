@@ -1,5 +1,5 @@
 -- A list with every entry outside a self-contained part left out: the part's entries get the same answers, its records the same state.
-use Rattle.std.specs.Prelude.{if◌then◌else◌}
+use Rattle.std.specs.Prelude.{if◌then◌else◌, Option, Some, None}
 use Prim.Native.Nat.{ℕ, ◌*◌, ◌/◌, ◌≤◌}
 use native.Mathlib.Omega.{arith}
 use mathlib.Core.Path.{◌≡◌, refl, sym, ◌∙◌, ap, ap₂}
@@ -21,7 +21,7 @@ use Rattle.model.specs.Part.{Part, holds, belongs, identifies, read_inside_as, r
 use Rattle.model.specs.Demands.{Isolation, OthersLeftOut}
 use Rattle.model.specs.declared.Entry.{Entry}
 use Rattle.model.specs.declared.Operation.{Operation}
-use Rattle.model.specs.declared.Operation.TheVariants.{Factor, SetCount, AdjustCount, SetDisable, SetService, Unknown}
+use Rattle.model.specs.declared.Operation.TheVariants.{Factor, SetCount, AdjustCount, SetDisable, SetService}
 use Rattle.model.proofs.Laws.{and_left, and_right, only, sites_apply}
 use Rattle.model.proofs.Flat.{Sized, length_flatten, groups_flatten, groups_sized, fresh_panel}
 use Rattle.model.proofs.Runs.{worked_through, entries_by, worked_at, all_entries, worked_list}
@@ -178,17 +178,17 @@ module _ (P : Part) where
     second_inside : all (pair_inside P) qs ≡ true
 
   -- The premise looks at the site and the records of the entry's object alone.
-  read_same : (o : Operation) (ps qs : Panel) (e : Entry) (x : Pair) → sites ps ≡ sites qs → read_inside_as o P ps e x ≡ read_inside_as o P qs e x
+  read_same : (o : Option Operation) (ps qs : Panel) (e : Entry) (x : Pair) → sites ps ≡ sites qs → read_inside_as o P ps e x ≡ read_inside_as o P qs e x
   unfolding identifies situation_of still_locked relinquished waiting
-  read_same Factor ps qs e x s = rw s
-  read_same SetCount ps qs e x s = refl
-  read_same AdjustCount ps qs e x s = refl
-  read_same SetDisable ps qs e x s = refl
-  read_same SetService ps qs e x s = refl
-  read_same Unknown ps qs e x s = refl
+  read_same (Some Factor) ps qs e x s = rw s
+  read_same (Some SetCount) ps qs e x s = refl
+  read_same (Some AdjustCount) ps qs e x s = refl
+  read_same (Some SetDisable) ps qs e x s = refl
+  read_same (Some SetService) ps qs e x s = refl
+  read_same None ps qs e x s = refl
 
   -- So it does where it is asked of entries that are not refused.
-  answered_as : (o : Operation) (ps qs : Panel) (e : Entry) (x : Pair) → sites ps ≡ sites qs → answered_inside_as P o ps e x ≡ true →
+  answered_as : (o : Option Operation) (ps qs : Panel) (e : Entry) (x : Pair) → sites ps ≡ sites qs → answered_inside_as P o ps e x ≡ true →
       answered_inside_as P o qs e x ≡ true
   unfolding answered_inside_as outcome_as refuse unchanged
   answered_as o ps qs e x s g = go (in_form o e) (missing x.0) refl refl

@@ -1,5 +1,5 @@
 -- A list of runs from fresh is one run of all its worked entries over the fresh panel.
-use Rattle.std.specs.Prelude.{if◌then◌else◌}
+use Rattle.std.specs.Prelude.{if◌then◌else◌, Ok, Err}
 use Prim.Native.Nat.{ℕ, suc, ◌/◌, ◌%◌}
 use native.Mathlib.Omega.{arith}
 use mathlib.Core.Path.{◌≡◌, refl, sym, ◌∙◌, ap, ap₂}
@@ -15,20 +15,19 @@ use Rattle.model.specs.Accept.{in_range, twice, exists, names_exist}
 use Rattle.model.specs.State.{Panel, panel, state_of, fresh}
 use Rattle.model.specs.Entry.{entry_of, entries, answer_bytes}
 use Rattle.model.specs.Step.{apply, entry_outcome, panels, after, answers}
-use Rattle.model.specs.Calls.{is_worked, check_site, fresh_returned, fresh_state, run_returned, run_journal}
+use Rattle.model.specs.Calls.{Returned, is_worked, check_site, fresh_returned, fresh_state, run_returned, run_journal}
 use Rattle.model.specs.Lists.{Run, run_on, state_after, Worked, with_answers, answers_in, worked_by, worked_in, History, begun, ended, worked}
 use Rattle.model.proofs.Laws.{and_left, or_left, instance_at, There, all_found_in, found_in}
 use Rattle.model.proofs.RoundTrip.{length_answer}
 use Rattle.model.proofs.Flat.{Sized, length_flatten, groups_flatten, panel_back, length_back, fresh_panel, sites_fresh, panel_fresh, length_fresh}
 use Rattle.model.specs.declared.Entry.{Entry}
 use Rattle.model.specs.declared.Answer.{Answer}
-use Rattle.model.specs.declared.Returned.{Returned}
-use Rattle.model.specs.declared.Returned.TheVariants.{WorkedThrough, SiteLength, SiteField, SiteTwice, SiteMissing, StateLength, StateForm, JournalLength, AnswersLength}
+use Rattle.model.specs.declared.Refusal.TheVariants.{SiteLength, SiteField, SiteTwice, SiteMissing, StateLength, StateForm, JournalLength, AnswersLength}
 
 -- ── what an accepted site holds
 
--- A chain of checks that comes to WorkedThrough passed its first check.
-pub passed_check : (c : Bool) (x y : Returned) → is_worked x ≡ false → (if c then x else y) ≡ WorkedThrough → (c ≡ false) × (y ≡ WorkedThrough)
+-- A chain of checks that comes to worked through passed its first check.
+pub passed_check : (c : Bool) (x y : Returned) → is_worked x ≡ false → (if c then x else y) ≡ Ok tt → (c ≡ false) × (y ≡ Ok tt)
 unfolding is_worked
 passed_check true x y w h = let z : true ≡ false = rw h at w in (z, cc)
 passed_check false x y w h = (refl, h)
@@ -39,13 +38,13 @@ pub record Accepted (site : List ℕ) : Type 0 where
   pub not_twice : twice (records site) ≡ false
   pub names_all_exist : all (names_exist (records site)) (records site) ≡ true
 
-pub site_accepted : (site : List ℕ) → check_site site ≡ WorkedThrough → Accepted site
+pub site_accepted : (site : List ℕ) → check_site site ≡ Ok tt → Accepted site
 unfolding check_site is_worked
 site_accepted site h =
-    let l = passed_check (not (eqb (length site % 32) 0) || ltb 64000 (length site)) SiteLength _ refl h in
-    let r = passed_check (not (all in_range (records site))) SiteField _ refl l.1 in
-    let t = passed_check (twice (records site)) SiteTwice _ refl r.1 in
-    let m = passed_check (not (all (names_exist (records site)) (records site))) SiteMissing _ refl t.1 in
+    let l = passed_check (not (eqb (length site % 32) 0) || ltb 64000 (length site)) (Err SiteLength) _ refl h in
+    let r = passed_check (not (all in_range (records site))) (Err SiteField) _ refl l.1 in
+    let t = passed_check (twice (records site)) (Err SiteTwice) _ refl r.1 in
+    let m = passed_check (not (all (names_exist (records site)) (records site))) (Err SiteMissing) _ refl t.1 in
     record {
       whole_records = eqb-true (length site % 32) 0 (not-false _ (or_left (not (eqb (length site % 32) 0)) _ l.0));
       fields_in_range = not-false (all in_range (records site)) r.0;
@@ -63,24 +62,24 @@ real_number k i ss a g =
     ne_eqb i NONE (λ d. omega (arith, ltb-true i NONE small))
 
 -- What is worked through returned no refusal.
-pub worked_through : (r : Returned) → is_worked r ≡ true → r ≡ WorkedThrough
+pub worked_through : (r : Returned) → is_worked r ≡ true → r ≡ Ok tt
 unfolding is_worked
-worked_through WorkedThrough h = refl
-worked_through SiteLength h = cc
-worked_through SiteField h = cc
-worked_through SiteTwice h = cc
-worked_through SiteMissing h = cc
-worked_through StateLength h = cc
-worked_through StateForm h = cc
-worked_through JournalLength h = cc
-worked_through AnswersLength h = cc
+worked_through (Ok tt) h = refl
+worked_through (Err SiteLength) h = cc
+worked_through (Err SiteField) h = cc
+worked_through (Err SiteTwice) h = cc
+worked_through (Err SiteMissing) h = cc
+worked_through (Err StateLength) h = cc
+worked_through (Err StateForm) h = cc
+worked_through (Err JournalLength) h = cc
+worked_through (Err AnswersLength) h = cc
 
-pub site_worked : (site state : List ℕ) → fresh_returned site state ≡ WorkedThrough → check_site site ≡ WorkedThrough
+pub site_worked : (site state : List ℕ) → fresh_returned site state ≡ Ok tt → check_site site ≡ Ok tt
 unfolding fresh_returned
 site_worked site state h = go (is_worked (check_site site)) refl h
   where
-    go : (c : Bool) → is_worked (check_site site) ≡ c → (if not c then check_site site else if not (eqb (length state) (length site)) then StateLength else WorkedThrough) ≡ WorkedThrough →
-        check_site site ≡ WorkedThrough
+    go : (c : Bool) → is_worked (check_site site) ≡ c → (if not c then check_site site else if not (eqb (length state) (length site)) then Err StateLength else Ok tt) ≡ Ok tt →
+        check_site site ≡ Ok tt
     go true w h = worked_through (check_site site) w
     go false w h = h
 

@@ -1,4 +1,5 @@
 -- What an entry reads of a panel: two panels that agree on it give the entry the same outcome.
+use Rattle.std.specs.Prelude.{Option, Some, None}
 use Prim.Native.Nat.{ℕ}
 use mathlib.Core.Path.{◌≡◌, refl}
 use mathlib.Core.Bool.{false}
@@ -14,7 +15,7 @@ use Rattle.model.specs.declared.CredentialId.{CredentialId}
 use Rattle.model.specs.declared.RightsId.{RightsId}
 use Rattle.model.specs.declared.Entry.{Entry}
 use Rattle.model.specs.declared.Operation.{Operation}
-use Rattle.model.specs.declared.Operation.TheVariants.{Factor, SetCount, AdjustCount, SetDisable, SetService, Unknown}
+use Rattle.model.specs.declared.Operation.TheVariants.{Factor, SetCount, AdjustCount, SetDisable, SetService}
 
 -- They find the same objects with the same state, the same factors, and rules that say the same.
 pub record Agree (ps qs : Panel) : Type 0 where
@@ -61,15 +62,15 @@ module _ (ps qs : Panel) (a : Agree ps qs) where
     unfolding factor_outcome
     read_agree = rw (to_agree, situation_agree, rules_agree)
 
-  as_agree : (o : Operation) (e : Entry) →
+  as_agree : (o : Option Operation) (e : Entry) →
       outcome_as o ps e (find (object_kind o) e.instance ps) ≡ outcome_as o qs e (find (object_kind o) e.instance qs)
   unfolding outcome_as in_form
-  as_agree Factor e = rw (a.objects n.access_point e.instance refl, read_agree e (find n.access_point e.instance qs))
-  as_agree SetCount e = rw (a.objects n.access_zone e.instance refl)
-  as_agree AdjustCount e = rw (a.objects n.access_zone e.instance refl)
-  as_agree SetDisable e = rw (a.objects n.access_credential e.instance refl)
-  as_agree SetService e = rw (a.objects n.access_point e.instance refl, to_agree e (find n.access_point e.instance qs))
-  as_agree Unknown e = refl
+  as_agree (Some Factor) e = rw (a.objects n.access_point e.instance refl, read_agree e (find n.access_point e.instance qs))
+  as_agree (Some SetCount) e = rw (a.objects n.access_zone e.instance refl)
+  as_agree (Some AdjustCount) e = rw (a.objects n.access_zone e.instance refl)
+  as_agree (Some SetDisable) e = rw (a.objects n.access_credential e.instance refl)
+  as_agree (Some SetService) e = rw (a.objects n.access_point e.instance refl, to_agree e (find n.access_point e.instance qs))
+  as_agree None e = refl
 
   pub outcome_agree : (e : Entry) → entry_outcome ps e ≡ entry_outcome qs e
   unfolding entry_outcome

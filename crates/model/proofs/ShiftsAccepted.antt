@@ -1,5 +1,5 @@
 -- Sites that differ in their shifts alone: refusals 2, 3 and 4 are the same.
-use Rattle.std.specs.Prelude.{if◌then◌else◌}
+use Rattle.std.specs.Prelude.{if◌then◌else◌, Option, Some, None, Ok, Err}
 use Prim.Native.Nat.{ℕ, zero, suc, ◌*◌, ◌/◌, ◌%◌, ◌≤◌}
 use native.Mathlib.Omega.{arith}
 use mathlib.Core.Path.{◌≡◌, refl, sym, ◌∙◌, ap}
@@ -14,13 +14,12 @@ use Rattle.model.specs.Words.{keep, any, all, missing}
 use Rattle.model.specs.Numbers as n
 use Rattle.model.specs.Site.{kind, record_kind, instance, point_of, everywhere, location_kind, location, is_at, find_in, records}
 use Rattle.model.specs.Accept.{real, in_range_as, in_range, twins, twice, exists, none_or_exists, names_exist_as, names_exist}
-use Rattle.model.specs.Calls.{check_site}
+use Rattle.model.specs.Calls.{Returned, check_site}
 use Rattle.model.specs.Shifts.{is_rule, not_rule, is_shift, until_midnight, since_midnight, Halved}
 use Rattle.model.specs.Demands.{returns_other, AcceptedShifts}
 use Rattle.model.specs.declared.RecordKind.{RecordKind}
-use Rattle.model.specs.declared.RecordKind.TheVariants.{OfZone, OfPoint, OfRule, OfCredential, OfFactor, OfUnknown}
-use Rattle.model.specs.declared.Returned.{Returned}
-use Rattle.model.specs.declared.Returned.TheVariants.{WorkedThrough, SiteLength, SiteField, SiteTwice, SiteMissing}
+use Rattle.model.specs.declared.RecordKind.TheVariants.{OfZone, OfPoint, OfRule, OfCredential, OfFactor}
+use Rattle.model.specs.declared.Refusal.TheVariants.{SiteLength, SiteField, SiteTwice, SiteMissing}
 use Rattle.model.proofs.Laws.{and_left, and_right, kind_at, find_keep, any_keep}
 use Rattle.model.proofs.Flat.{Sized}
 use Rattle.model.proofs.Shifts.{RuleRange, rule_range, rule_location, whole_rule, Like, until_like, since_like, range_halves, shift_rule}
@@ -107,13 +106,13 @@ module _ (ss ts : List (List ℕ)) (h : Halved ss ts) where
       place false e p =
           exists_same (location_kind s) (location s) (ne_eqb (location_kind s) n.access_rule (λ k. omega (arith, (rule_location s p e).1)))
 
-      go : (k : RecordKind) → in_range_as k s ≡ true → names_exist_as k ss s ≡ names_exist_as k ts s
-      go OfZone r = refl
-      go OfPoint r = rw (exists_same n.access_zone (point_of s).zone_to.0 refl, exists_same n.access_zone (point_of s).zone_from.0 refl)
-      go OfRule r = place (everywhere s) refl (rule_range s r)
-      go OfCredential r = refl
-      go OfFactor r = exists_same n.access_credential (instance s) refl
-      go OfUnknown r = refl
+      go : (k : Option RecordKind) → in_range_as k s ≡ true → names_exist_as k ss s ≡ names_exist_as k ts s
+      go (Some OfZone) r = refl
+      go (Some OfPoint) r = rw (exists_same n.access_zone (point_of s).zone_to.0 refl, exists_same n.access_zone (point_of s).zone_from.0 refl)
+      go (Some OfRule) r = place (everywhere s) refl (rule_range s r)
+      go (Some OfCredential) r = refl
+      go (Some OfFactor) r = exists_same n.access_credential (instance s) refl
+      go None r = refl
 
 -- A half names what its shift does.
 names_like : (ts : List (List ℕ)) (s t : List ℕ) → kind s ≡ n.access_rule → Like s t → names_exist ts t ≡ names_exist ts s
@@ -142,7 +141,7 @@ all_names ss ts h r =
 abbrev wrong_length : List ℕ → Bool
 wrong_length site = not (eqb (length site % n.record_size) 0) || ltb n.largest_site (length site)
 
-length_passed : (c : Bool) (x : Returned) → returns_other SiteLength (if c then SiteLength else x) ≡ true → c ≡ false
+length_passed : (c : Bool) (x : Returned) → returns_other (Err SiteLength) (if c then Err SiteLength else x) ≡ true → c ≡ false
 length_passed true x h = absurd (false≢true h)
 length_passed false x h = refl
 
@@ -160,7 +159,7 @@ accepted_shifts site other s o h =
     (go (all in_range (records site)) refl)
   where
     rest : Bool → List (List ℕ) → Returned
-    rest c ss = if not c then SiteField else if twice (records site) then SiteTwice else if not (all (names_exist ss) ss) then SiteMissing else WorkedThrough
+    rest c ss = if not c then Err SiteField else if twice (records site) then Err SiteTwice else if not (all (names_exist ss) ss) then Err SiteMissing else Ok tt
 
     go : (c : Bool) → all in_range (records site) ≡ c → rest c (records site) ≡ rest c (records other)
     go true r = rw (all_names (records site) (records other) h r)

@@ -1,4 +1,5 @@
 -- What is turned back or refused changes nothing: the theorems `turned_back` and `refused`.
+use Rattle.std.specs.Prelude.{Option, Some, None}
 use Prim.Native.Nat.{ℕ, suc, ◌<◌, ◌/◌}
 use native.Mathlib.Omega.{arith}
 use mathlib.Core.Path.{◌≡◌, refl, sym, ◌∙◌, ap}
@@ -23,7 +24,7 @@ use Rattle.model.proofs.Entries.{length_entries, state_at, answer_at}
 use Rattle.model.specs.declared.Entry.{Entry}
 use Rattle.model.specs.declared.Outcome.{Outcome}
 use Rattle.model.specs.declared.Operation.{Operation}
-use Rattle.model.specs.declared.Operation.TheVariants.{Factor, SetCount, AdjustCount, SetDisable, SetService, Unknown}
+use Rattle.model.specs.declared.Operation.TheVariants.{Factor, SetCount, AdjustCount, SetDisable, SetService}
 
 pub turned_back : TurnedBack
 unfolding TurnedBack fresh_state run_on run_journal
@@ -39,16 +40,16 @@ unfolding Refusal refuse unchanged
 refusal_refuse n h = refl
 
 -- No worked operation refuses, but for an adjustment to a count that is too large.
-refusal_worked : (o : Operation) (ps : Panel) (e : Entry) (x : Pair) → Refusal (worked_outcome o ps e x)
+refusal_worked : (o : Option Operation) (ps : Panel) (e : Entry) (x : Pair) → Refusal (worked_outcome o ps e x)
 unfolding Refusal factor_outcome unchanged outcome_of outcome_with answer_with count_outcome disable_outcome service_outcome adjust_outcome
-refusal_worked Factor ps e x =
+refusal_worked (Some Factor) ps e x =
     if_holds Refusal (point_of x.0).out_of_service (unchanged _) (outcome_of _ e _) (λ h. cc) (λ h. cc)
-refusal_worked SetCount ps e x = λ h. cc
-refusal_worked AdjustCount ps e x =
+refusal_worked (Some SetCount) ps e x = λ h. cc
+refusal_worked (Some AdjustCount) ps e x =
     if_holds Refusal (ltb _ (adjusted _ e.amount)) (refuse _) (count_outcome e _) (refusal_refuse _) (λ h. cc)
-refusal_worked SetDisable ps e x = λ h. cc
-refusal_worked SetService ps e x = λ h. cc
-refusal_worked Unknown ps e x = refusal_refuse _
+refusal_worked (Some SetDisable) ps e x = λ h. cc
+refusal_worked (Some SetService) ps e x = λ h. cc
+refusal_worked None ps e x = refusal_refuse _
 
 refusal_entry : (ps : Panel) (e : Entry) → Refusal (entry_outcome ps e)
 refusal_entry ps e = entry_holds (λ o. Refusal) ps e (λ o r d. refusal_refuse r) (λ o x f i g. refusal_worked o ps e x)

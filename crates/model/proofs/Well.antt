@@ -1,6 +1,6 @@
 -- The states that well-formed records hold: their bytes are well-formed records, what is found in a panel of such records holds such a
 -- state, and fresh records are well formed.
-use Rattle.std.specs.Prelude.{if◌then◌else◌}
+use Rattle.std.specs.Prelude.{if◌then◌else◌, Option, Some, None}
 use Prim.Native.Nat.{ℕ, ◌+◌, ◌*◌, ◌/◌, ◌<◌}
 use native.Mathlib.Omega.{arith}
 use mathlib.Core.Path.{◌≡◌, refl}
@@ -24,7 +24,7 @@ use Rattle.model.specs.declared.PointState.{PointState}
 use Rattle.model.specs.declared.CredentialState.{CredentialState}
 use Rattle.model.specs.declared.Entry.{Entry}
 use Rattle.model.specs.declared.RecordKind.{RecordKind}
-use Rattle.model.specs.declared.RecordKind.TheVariants.{OfZone, OfPoint, OfRule, OfCredential, OfFactor, OfUnknown}
+use Rattle.model.specs.declared.RecordKind.TheVariants.{OfZone, OfPoint, OfRule, OfCredential, OfFactor}
 
 -- ── references, failures and wrong tries
 
@@ -279,19 +279,19 @@ fresh_record_law : (ss : List (List ℕ)) (s : List ℕ) → in_range s ≡ true
 unfolding fresh_record record_well zone_well clear same fresh_credential
 fresh_record_law ss s r = go (record_kind s) refl
   where
-    disable_fits : record_kind s ≡ OfCredential → leb (disable_given s) n.largest_disable ≡ true
+    disable_fits : record_kind s ≡ (Some OfCredential) → leb (disable_given s) n.largest_disable ≡ true
     disable_fits k =
         unfold in_range credential_in_range in
         let f = rw k at r in
         search (and_left, and_right)
 
-    go : (k : RecordKind) → record_kind s ≡ k → record_well_as k ss (s, fresh_record_as k s) ≡ true
-    go OfZone k = refl
-    go OfPoint k = point_bytes_well ss s fresh_point (fresh_point_law ss _)
-    go OfRule k = refl
-    go OfCredential k = credential_bytes_well ss s (fresh_credential s) (fresh_credential_law ss _ _ _ _ (disable_fits k))
-    go OfFactor k = refl
-    go OfUnknown k = refl
+    go : (k : Option RecordKind) → record_kind s ≡ k → record_well_as k ss (s, fresh_record_as k s) ≡ true
+    go (Some OfZone) k = refl
+    go (Some OfPoint) k = point_bytes_well ss s fresh_point (fresh_point_law ss _)
+    go (Some OfRule) k = refl
+    go (Some OfCredential) k = credential_bytes_well ss s (fresh_credential s) (fresh_credential_law ss _ _ _ _ (disable_fits k))
+    go (Some OfFactor) k = refl
+    go None k = refl
 
 -- The fresh panel of site records in range is well formed.
 pub well_fresh : (ss ts : List (List ℕ)) → all in_range ts ≡ true → all (record_well ss) (fresh_panel ts) ≡ true

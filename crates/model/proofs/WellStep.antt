@@ -1,5 +1,5 @@
 -- Where the records of a panel are well formed, they are so after every entry.
-use Rattle.std.specs.Prelude.{if◌then◌else◌}
+use Rattle.std.specs.Prelude.{if◌then◌else◌, Option, Some, None}
 use Prim.Native.Nat.{ℕ}
 use mathlib.Core.Path.{◌≡◌, refl, ◌∙◌, ap}
 use mathlib.Core.List.{List, [], ◌∷◌}
@@ -29,7 +29,7 @@ use Rattle.model.specs.declared.Entry.{Entry}
 use Rattle.model.specs.declared.Answer.{Answer}
 use Rattle.model.specs.declared.Outcome.{Outcome}
 use Rattle.model.specs.declared.Operation.{Operation}
-use Rattle.model.specs.declared.Operation.TheVariants.{Factor, SetCount, AdjustCount, SetDisable, SetService, Unknown}
+use Rattle.model.specs.declared.Operation.TheVariants.{Factor, SetCount, AdjustCount, SetDisable, SetService}
 
 -- ── the states that a factor read leaves, for every situation and event
 
@@ -229,7 +229,7 @@ module _ (ss : List (List ℕ)) (ps : Panel) (of_site : sites ps ≡ ss) (well :
   found_fits k i g = exists_fits ss k i (rw (← found_site k i, g))
 
   -- Operation 4.
-  sound_disable : in_form SetDisable e ≡ true →
+  sound_disable : in_form (Some SetDisable) e ≡ true →
       Sound ss (disable_outcome e (credential_state_of (find n.access_credential e.instance ps).1))
   unfolding disable_outcome no_point disable_after in_form
   sound_disable f =
@@ -278,15 +278,15 @@ module _ (ss : List (List ℕ)) (ps : Panel) (of_site : sites ps ≡ ss) (well :
         (ap point_of (found_site n.access_point e.instance)) read_credential (found_fits n.access_point e.instance g))
 
     -- Every operation, at an object that is found.
-    sound_worked : (o : Operation) (x : Pair) → find (object_kind o) e.instance ps ≡ x → in_form o e ≡ true → missing x.0 ≡ false →
+    sound_worked : (o : Option Operation) (x : Pair) → find (object_kind o) e.instance ps ≡ x → in_form o e ≡ true → missing x.0 ≡ false →
         Sound ss (worked_outcome o ps e x)
     unfolding refuse
-    sound_worked Factor x p f g = rw (← p) (sound_factor (rw p g))
-    sound_worked SetCount x p f g = sound_count ss e e.amount
-    sound_worked AdjustCount x p f g = sound_adjust ss e _
-    sound_worked SetDisable x p f g = rw (← p) (sound_disable f)
-    sound_worked SetService x p f g = rw (← p) (sound_service _)
-    sound_worked Unknown x p f g = sound_unchanged ss _
+    sound_worked (Some Factor) x p f g = rw (← p) (sound_factor (rw p g))
+    sound_worked (Some SetCount) x p f g = sound_count ss e e.amount
+    sound_worked (Some AdjustCount) x p f g = sound_adjust ss e _
+    sound_worked (Some SetDisable) x p f g = rw (← p) (sound_disable f)
+    sound_worked (Some SetService) x p f g = rw (← p) (sound_service _)
+    sound_worked None x p f g = sound_unchanged ss _
 
     -- Every entry.
     sound_entry : Sound ss (entry_outcome ps e)

@@ -1,5 +1,5 @@
 -- Wrong codes: a credential's wrong tries and disable after every list of runs from fresh, and the wrong tries that a grant finds.
-use Rattle.std.specs.Prelude.{if◌then◌else◌}
+use Rattle.std.specs.Prelude.{if◌then◌else◌, Option, Some, None}
 use Prim.Native.Nat.{ℕ, ◌+◌}
 use native.Mathlib.Omega.{arith}
 use mathlib.Core.Path.{◌≡◌, refl, sym, ◌∙◌, ap, ap₂, subst}
@@ -30,7 +30,7 @@ use Rattle.model.specs.declared.Answer.{Answer}
 use Rattle.model.specs.declared.Outcome.{Outcome}
 use Rattle.model.specs.declared.CredentialState.{CredentialState}
 use Rattle.model.specs.declared.Operation.{Operation}
-use Rattle.model.specs.declared.Operation.TheVariants.{Factor, SetCount, AdjustCount, SetDisable, SetService, Unknown}
+use Rattle.model.specs.declared.Operation.TheVariants.{Factor, SetCount, AdjustCount, SetDisable, SetService}
 use Rattle.model.proofs.Laws.{if_holds, There, find_in_sites, sites_apply}
 use Rattle.model.proofs.RoundTrip.{event_back, refusal_back, credential_named_back}
 use Rattle.model.proofs.Flat.{fresh_panel, sites_fresh, sites_after, sites_panel}
@@ -52,11 +52,11 @@ abbrev is_try : ℕ → Answer → Bool
 is_try c a = (eqb a.event n.denied_authentication_factor_timeout || eqb a.event n.denied_incorrect_authentication_factor) && eqb a.credential.0 c
 
 -- The answer accepts an operation 4 on it.
-abbrev disables : ℕ → Operation → Entry → Answer → Bool
+abbrev disables : ℕ → Option Operation → Entry → Answer → Bool
 disables c o e a = sets_disable o && eqb e.instance c && eqb a.refusal n.not_refused
 
 -- What the entry makes of wrong tries and disable.
-unfoldable tried_with : ℕ → ℕ → Operation → Entry → Answer → Tried → Tried
+unfoldable tried_with : ℕ → ℕ → Option Operation → Entry → Answer → Tried → Tried
 tried_with most c o e a t =
     if disables c o e a then tried 0 e.argument else
     if grants c a then tried 0 t.disable else
@@ -71,18 +71,18 @@ tried_answer most c ps b a t = rw (event_back a, refusal_back a, credential_name
 -- ── what an outcome leaves of them
 
 -- They are those that the answer shows; and what is granted was not locked out.
-record Tries (most c : ℕ) (e : Entry) (s : CredentialState) (o : Operation) (u : Outcome) : Type 0 where
+record Tries (most c : ℕ) (e : Entry) (s : CredentialState) (o : Option Operation) (u : Outcome) : Type 0 where
   left : tried_in (held_by c u s) ≡ tried_with most c o e u.answer (tried_in s)
   enabled : grants c u.answer ≡ true → eqb s.disable n.disable_lockout ≡ false
 
 module _ (most c : ℕ) (e : Entry) (s : CredentialState) where
   -- An outcome that writes no credential, neither grants nor is a wrong try, and is no accepted operation 4.
-  tries_none : (o : Operation) (u : Outcome) → u.credential ≡ no_credential → disables c o e u.answer ≡ false → grants c u.answer ≡ false →
+  tries_none : (o : Option Operation) (u : Outcome) → u.credential ≡ no_credential → disables c o e u.answer ≡ false → grants c u.answer ≡ false →
       is_try c u.answer ≡ false → Tries most c e s o u
   unfolding held_by no_credential tried_with
   tries_none o u k d g m = record { left = simp (k, d, g, m, and-false); enabled = λ h. absurd (false≢true (rw g at h)) }
 
-  tries_refuse : (o : Operation) (r : ℕ) → eqb r n.not_refused ≡ false → Tries most c e s o (refuse r)
+  tries_refuse : (o : Option Operation) (r : ℕ) → eqb r n.not_refused ≡ false → Tries most c e s o (refuse r)
   unfolding refuse unchanged
   tries_refuse o r d = tries_none o (refuse r) refl (simp (d, and-false)) refl refl
 
@@ -110,14 +110,14 @@ module _ (c : ℕ) (not_none : eqb c NONE ≡ false) (most : ℕ) (e : Entry) wh
   tries_event : (v : Situation) (s : CredentialState) (x : ℕ) →
       (eqb (named v x).0 c ≡ true → (v.credential_state ≡ s) × (v.credential.most_wrong_tries ≡ most)) →
       (eqb (named v x).0 c ≡ true → eqb x n.granted ≡ true → eqb s.disable n.disable_lockout ≡ false) →
-      Tries most c e s Factor (outcome_of v e x)
+      Tries most c e s (Some Factor) (outcome_of v e x)
   unfolding held_by outcome_of outcome_with answer_with tried_with is_wrong_try
   tries_event v s x same enabled = go (eqb (named v x).0 c) refl (eqb x n.granted) refl (eqb x n.no_event) refl
     where
       counted : Bool
       counted = not (eqb most 0) && (eqb x n.denied_authentication_factor_timeout || eqb x n.denied_incorrect_authentication_factor)
 
-      go : (b : Bool) → eqb (named v x).0 c ≡ b → (d : Bool) → eqb x n.granted ≡ d → (f : Bool) → eqb x n.no_event ≡ f → Tries most c e s Factor (outcome_of v e x)
+      go : (b : Bool) → eqb (named v x).0 c ≡ b → (d : Bool) → eqb x n.granted ≡ d → (f : Bool) → eqb x n.no_event ≡ f → Tries most c e s (Some Factor) (outcome_of v e x)
       go false p d q f r = record { left = simp (p, and-false); enabled = λ g. absurd (false≢true (simp (p, and-false) at g)) }
       go true p true q true r = absurd (let y = eqb-true x 1 q in let z = eqb-true x 0 r in omega arith)
       go true p true q false r =
@@ -135,42 +135,42 @@ module _ (c : ℕ) (not_none : eqb c NONE ≡ false) (most : ℕ) (e : Entry) wh
 
   -- Operation 1, at the point's records x.
   tries_factor : (ps : Panel) (x : Pair) → (credential_of (find_in (is_credential c) (sites ps))).most_wrong_tries ≡ most →
-      Tries most c e (held c ps) Factor (factor_outcome ps e x)
+      Tries most c e (held c ps) (Some Factor) (factor_outcome ps e x)
   unfolding factor_outcome unchanged
   tries_factor ps x m =
       let v = situation_of ps e x in
       let event = event_of v (rules_at ps e x) e in
-      if_holds (Tries most c e (held c ps) Factor) (point_of x.0).out_of_service (unchanged _) (outcome_of v e event)
-      (tries_none most c e (held c ps) Factor (unchanged _) refl refl refl refl)
+      if_holds (Tries most c e (held c ps) (Some Factor)) (point_of x.0).out_of_service (unchanged _) (outcome_of v e event)
+      (tries_none most c e (held c ps) (Some Factor) (unchanged _) refl refl refl refl)
       (tries_event v (held c ps) event
       (λ p. let k = named_number c not_none v event p in
       (state_read c not_none e ps x k, rw (k, m) at (ap (λ (d : Credential). d.most_wrong_tries) (credential_read_law ps e x (rw k not_none)))))
       (λ p q. rw (state_read c not_none e ps x (named_number c not_none v event p)) at (granted_enabled ps e x (eqb-true event 1 q))))
 
   -- Operation 4, at the records x of the credential that it names.
-  tries_disable : (s t : CredentialState) → Tries most c e s SetDisable (disable_outcome e t)
+  tries_disable : (s t : CredentialState) → Tries most c e s (Some SetDisable) (disable_outcome e t)
   unfolding held_by disable_outcome disable_after tried_with
   tries_disable s t = go (eqb e.instance c) refl
     where
-      go : (b : Bool) → eqb e.instance c ≡ b → Tries most c e s SetDisable (disable_outcome e t)
+      go : (b : Bool) → eqb e.instance c ≡ b → Tries most c e s (Some SetDisable) (disable_outcome e t)
       go true p = record { left = rw p; enabled = λ g. absurd (false≢true g) }
       go false p = record { left = simp (p, and-false); enabled = λ g. absurd (false≢true g) }
 
   -- The operation at its object's records x.
-  tries_worked : (ps : Panel) → (credential_of (find_in (is_credential c) (sites ps))).most_wrong_tries ≡ most → (o : Operation) (x : Pair) →
+  tries_worked : (ps : Panel) → (credential_of (find_in (is_credential c) (sites ps))).most_wrong_tries ≡ most → (o : Option Operation) (x : Pair) →
       Tries most c e (held c ps) o (worked_outcome o ps e x)
   unfolding count_outcome adjust_outcome service_outcome
-  tries_worked ps m Factor x = tries_factor ps x m
-  tries_worked ps m SetCount x = tries_none most c e (held c ps) SetCount (count_outcome e _) refl refl refl refl
-  tries_worked ps m AdjustCount x =
-      if_holds (Tries most c e (held c ps) AdjustCount) (ltb _ (adjusted _ e.amount)) (refuse _) (count_outcome e _)
-      (tries_refuse most c e (held c ps) AdjustCount _ refl) (tries_none most c e (held c ps) AdjustCount (count_outcome e _) refl refl refl refl)
-  tries_worked ps m SetDisable x = tries_disable (held c ps) _
-  tries_worked ps m SetService x =
-      tries_none most c e (held c ps) SetService (service_outcome e _ _) refl refl
+  tries_worked ps m (Some Factor) x = tries_factor ps x m
+  tries_worked ps m (Some SetCount) x = tries_none most c e (held c ps) (Some SetCount) (count_outcome e _) refl refl refl refl
+  tries_worked ps m (Some AdjustCount) x =
+      if_holds (Tries most c e (held c ps) (Some AdjustCount)) (ltb _ (adjusted _ e.amount)) (refuse _) (count_outcome e _)
+      (tries_refuse most c e (held c ps) (Some AdjustCount) _ refl) (tries_none most c e (held c ps) (Some AdjustCount) (count_outcome e _) refl refl refl refl)
+  tries_worked ps m (Some SetDisable) x = tries_disable (held c ps) _
+  tries_worked ps m (Some SetService) x =
+      tries_none most c e (held c ps) (Some SetService) (service_outcome e _ _) refl refl
       (if_holds (λ k. eqb k n.granted && eqb NONE c ≡ false) (locks e) 7 8 refl refl)
       (if_holds (λ k. (eqb k n.denied_authentication_factor_timeout || eqb k n.denied_incorrect_authentication_factor) && eqb NONE c ≡ false) (locks e) 7 8 refl refl)
-  tries_worked ps m Unknown x = tries_refuse most c e (held c ps) Unknown _ refl
+  tries_worked ps m None x = tries_refuse most c e (held c ps) None _ refl
 
   -- Any entry.
   tries_entry : (ps : Panel) → (credential_of (find_in (is_credential c) (sites ps))).most_wrong_tries ≡ most →
@@ -206,10 +206,10 @@ Below : ℕ → ℕ → Tried → Type 0
 Below most since t = eqb t.disable n.disable_lockout ≡ false → (t.tries ≡ since) × (ltb since most ≡ true)
 
 -- Those since they were last zeroed, after one entry.
-abbrev since_with : ℕ → Operation → Entry → Answer → ℕ → ℕ
+abbrev since_with : ℕ → Option Operation → Entry → Answer → ℕ → ℕ
 since_with c o e a since = if disables c o e a || grants c a then 0 else if is_try c a then since + 1 else since
 
-below_next : (c most : ℕ) → eqb most 0 ≡ false → (o : Operation) (e : Entry) (a : Answer) (since : ℕ) (t : Tried) → Below most since t →
+below_next : (c most : ℕ) → eqb most 0 ≡ false → (o : Option Operation) (e : Entry) (a : Answer) (since : ℕ) (t : Tried) → Below most since t →
     Below most (since_with c o e a since) (tried_with most c o e a t)
 unfolding Below tried_with tried_once
 below_next c most set o e a since t h = rw set (go (disables c o e a) (grants c a) (is_try c a) (leb most (t.tries + 1)) refl)
@@ -296,14 +296,14 @@ module _ (c : ℕ) where
       named_there true p m = rw (eqb-true e.instance c p, g) at m
       named_there false p m = refl
 
-      worked : (o : Operation) (x : Pair) → find (object_kind o) e.instance ps ≡ x → missing x.0 ≡ false →
+      worked : (o : Option Operation) (x : Pair) → find (object_kind o) e.instance ps ≡ x → missing x.0 ≡ false →
           disables c o e (worked_outcome o ps e x).answer ≡ false
-      worked Factor x f m = refl
-      worked SetCount x f m = refl
-      worked AdjustCount x f m = refl
-      worked SetDisable x f m = rw (named_there _ refl (rw f m))
-      worked SetService x f m = refl
-      worked Unknown x f m = refl
+      worked (Some Factor) x f m = refl
+      worked (Some SetCount) x f m = refl
+      worked (Some AdjustCount) x f m = refl
+      worked (Some SetDisable) x f m = rw (named_there _ refl (rw f m))
+      worked (Some SetService) x f m = refl
+      worked None x f m = refl
 
   -- So no entry shows anything of it.
   nobody_tried : (bs : List (List ℕ)) (ps : Panel) → missing (find_in (is_credential c) (sites ps)) ≡ true →

@@ -1,11 +1,11 @@
 -- Which site files are turned back: refusals 2, 3 and 4 over the records of a site. Refusal 1 is in Calls.
-use Rattle.std.specs.Prelude.{ℕ, List, [], ◌∷◌, Bool, true, false, not, ◌&&◌, ◌||◌, ltb, leb, eqb, take, drop, if◌then◌else◌}
+use Rattle.std.specs.Prelude.{ℕ, List, [], ◌∷◌, Bool, true, false, not, ◌&&◌, ◌||◌, ltb, leb, eqb, take, drop, if◌then◌else◌, Option, Some, None}
 use Rattle.octets.specs.Octets.{same}
 use Rattle.model.specs.Words.{any, zeros, within, missing}
 use Rattle.model.specs.Numbers.{NONE, minutes_of_day, access_zone, access_point, access_credential, passback_soft, mode_deny_all, two_factors, role_identifying, role_confirming, factor_destroyed, format_error, largest_disable, largest_threat}
 use Rattle.model.specs.Site.{kind, record_kind, flags, instance, zone_of, point_of, credential_of, disable_given, everywhere, location_kind, weekdays, location, from_minute, to_minute, role, factor_disable, format, value, is_at, find_in}
 use Rattle.model.specs.declared.RecordKind.{RecordKind}
-use Rattle.model.specs.declared.RecordKind.TheVariants.{OfZone, OfPoint, OfRule, OfCredential, OfFactor, OfUnknown}
+use Rattle.model.specs.declared.RecordKind.TheVariants.{OfZone, OfPoint, OfRule, OfCredential, OfFactor}
 
 -- ── refusal 2: "a record's kind, field or spare byte out of range". "Enumerations and bounds given here are the field ranges; an
 -- instance is real unless NONE is allowed."
@@ -60,13 +60,13 @@ factor_in_range s =
     && ltb format_error (format s) && clear 9 7 s && clear 24 8 s
 
 -- "a record's kind, field": any of the five kinds, its fields in their ranges.
-abbrev pub in_range_as : RecordKind → List ℕ → Bool
-in_range_as OfZone s = zone_in_range s
-in_range_as OfPoint s = point_in_range s
-in_range_as OfRule s = rule_in_range s
-in_range_as OfCredential s = credential_in_range s
-in_range_as OfFactor s = factor_in_range s
-in_range_as OfUnknown s = false
+abbrev pub in_range_as : Option RecordKind → List ℕ → Bool
+in_range_as (Some OfZone) s = zone_in_range s
+in_range_as (Some OfPoint) s = point_in_range s
+in_range_as (Some OfRule) s = rule_in_range s
+in_range_as (Some OfCredential) s = credential_in_range s
+in_range_as (Some OfFactor) s = factor_in_range s
+in_range_as None s = false
 
 -- The same with a real instance.
 unfoldable pub in_range : List ℕ → Bool
@@ -82,13 +82,13 @@ twin_factors s t =
     && (eqb (role s) role_identifying || eqb (instance s) (instance t))
 
 -- "two zones, points or credentials of one instance", or two such factors; rules are never twins.
-abbrev pub twins_as : RecordKind → List ℕ → List ℕ → Bool
-twins_as OfZone s t = eqb (instance s) (instance t)
-twins_as OfPoint s t = eqb (instance s) (instance t)
-twins_as OfRule s t = false
-twins_as OfCredential s t = eqb (instance s) (instance t)
-twins_as OfFactor s t = twin_factors s t
-twins_as OfUnknown s t = eqb (instance s) (instance t)
+abbrev pub twins_as : Option RecordKind → List ℕ → List ℕ → Bool
+twins_as (Some OfZone) s t = eqb (instance s) (instance t)
+twins_as (Some OfPoint) s t = eqb (instance s) (instance t)
+twins_as (Some OfRule) s t = false
+twins_as (Some OfCredential) s t = eqb (instance s) (instance t)
+twins_as (Some OfFactor) s t = twin_factors s t
+twins_as None s t = eqb (instance s) (instance t)
 
 -- Both of one kind.
 unfoldable pub twins : List ℕ → List ℕ → Bool
@@ -111,14 +111,14 @@ unfoldable pub none_or_exists : List (List ℕ) → ℕ → ℕ → Bool
 none_or_exists ss k i = eqb i NONE || exists ss k i
 
 -- "A point's zone, a factor's credential and, unless everywhere, a rule's location". The location kinds 1 and 2 are those of zone and point.
-abbrev pub names_exist_as : RecordKind → List (List ℕ) → List ℕ → Bool
-names_exist_as OfZone ss s = true
-names_exist_as OfPoint ss s =
+abbrev pub names_exist_as : Option RecordKind → List (List ℕ) → List ℕ → Bool
+names_exist_as (Some OfZone) ss s = true
+names_exist_as (Some OfPoint) ss s =
     none_or_exists ss access_zone (point_of s).zone_to.0 && none_or_exists ss access_zone (point_of s).zone_from.0
-names_exist_as OfRule ss s = everywhere s || exists ss (location_kind s) (location s)
-names_exist_as OfCredential ss s = true
-names_exist_as OfFactor ss s = exists ss access_credential (instance s)
-names_exist_as OfUnknown ss s = true
+names_exist_as (Some OfRule) ss s = everywhere s || exists ss (location_kind s) (location s)
+names_exist_as (Some OfCredential) ss s = true
+names_exist_as (Some OfFactor) ss s = exists ss access_credential (instance s)
+names_exist_as None ss s = true
 
 -- What a record names is there.
 unfoldable pub names_exist : List (List ℕ) → List ℕ → Bool

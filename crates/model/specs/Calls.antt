@@ -1,6 +1,6 @@
 -- The calls: what each returns, and the later contents of every lent buffer. "Turned back": refusals 1 to 6, 10 and 11, each over the
 -- whole input in its turn.
-use Rattle.std.specs.Prelude.{ℕ, ◌*◌, ◌/◌, ◌%◌, Bool, not, ◌||◌, ltb, eqb, length, if◌then◌else◌}
+use Rattle.std.specs.Prelude.{ℕ, ◌*◌, ◌/◌, ◌%◌, Bool, not, ◌||◌, ltb, eqb, length, if◌then◌else◌, Result, Ok, Err}
 use mathlib.Core.List.{List, map, flatten}
 use Rattle.model.specs.Words.{all}
 use Rattle.model.specs.Numbers as n
@@ -9,20 +9,24 @@ use Rattle.model.specs.Accept.{in_range, twice, names_exist}
 use Rattle.model.specs.State.{panel, state_of, fresh, well_formed}
 use Rattle.model.specs.Entry.{entries, entry_of, answer_bytes}
 use Rattle.model.specs.Step.{after, answers}
-use Rattle.model.specs.declared.Returned.{Returned}
-use Rattle.model.specs.declared.Returned.TheVariants.{WorkedThrough, SiteLength, SiteField, SiteTwice, SiteMissing, StateLength, StateForm, JournalLength, AnswersLength}
+use Rattle.model.specs.declared.Refusal.{Refusal}
+use Rattle.model.specs.declared.Refusal.TheVariants.{SiteLength, SiteField, SiteTwice, SiteMissing, StateLength, StateForm, JournalLength, AnswersLength}
+
+-- "Returned": worked through, or why the input is turned back.
+abbrev pub Returned : Type 0
+Returned = Result Unit Refusal
 
 -- "Returned (0: worked through)": the number of each outcome.
 abbrev pub number : Returned → ℕ
-number WorkedThrough = 0
-number SiteLength = 1
-number SiteField = 2
-number SiteTwice = 3
-number SiteMissing = 4
-number StateLength = 5
-number StateForm = 6
-number JournalLength = 10
-number AnswersLength = 11
+number (Ok done) = 0
+number (Err SiteLength) = 1
+number (Err SiteField) = 2
+number (Err SiteTwice) = 3
+number (Err SiteMissing) = 4
+number (Err StateLength) = 5
+number (Err StateForm) = 6
+number (Err JournalLength) = 10
+number (Err AnswersLength) = 11
 
 -- "0: worked through".
 unfoldable pub is_worked : Returned → Bool
@@ -34,11 +38,11 @@ is_worked r = eqb (number r) 0
 -- The number that a site check returns; a site is lent to be read alone.
 unfoldable pub check_site : List ℕ → Returned
 check_site site =
-    if not (eqb (length site % n.record_size) 0) || ltb n.largest_site (length site) then SiteLength else
-    if not (all in_range (records site)) then SiteField else
-    if twice (records site) then SiteTwice else
-    if not (all (names_exist (records site)) (records site)) then SiteMissing else
-    WorkedThrough
+    if not (eqb (length site % n.record_size) 0) || ltb n.largest_site (length site) then Err SiteLength else
+    if not (all in_range (records site)) then Err SiteField else
+    if twice (records site) then Err SiteTwice else
+    if not (all (names_exist (records site)) (records site)) then Err SiteMissing else
+    Ok tt
 
 -- ── the fresh state: "Fresh stops after 5": "5 state not as long as the site"
 
@@ -55,8 +59,8 @@ fresh_result returned state = record { returned = returned; state = state }
 unfoldable pub fresh_returned : List ℕ → List ℕ → Returned
 fresh_returned site state =
     if not (is_worked (check_site site)) then check_site site else
-    if not (eqb (length state) (length site)) then StateLength else
-    WorkedThrough
+    if not (eqb (length state) (length site)) then Err StateLength else
+    Ok tt
 
 -- The call: the fresh state, or the state as it was.
 unfoldable pub fresh_state : List ℕ → List ℕ → FreshResult
@@ -69,8 +73,8 @@ fresh_state site state =
 unfoldable pub check_state : List ℕ → List ℕ → Returned
 check_state site state =
     if not (is_worked (fresh_returned site state)) then fresh_returned site state else
-    if not (well_formed site state) then StateForm else
-    WorkedThrough
+    if not (well_formed site state) then Err StateForm else
+    Ok tt
 
 -- ── the journal run: "10 journal not a multiple of 24, or above 65,520; 11 answers not 16 bytes per entry"
 
@@ -88,9 +92,9 @@ run_result returned state answers = record { returned = returned; state = state;
 unfoldable pub run_returned : List ℕ → List ℕ → List ℕ → List ℕ → Returned
 run_returned site state journal answered =
     if not (is_worked (check_state site state)) then check_state site state else
-    if not (eqb (length journal % n.entry_size) 0) || ltb n.largest_journal (length journal) then JournalLength else
-    if not (eqb (length answered) (length journal / n.entry_size * n.answer_size)) then AnswersLength else
-    WorkedThrough
+    if not (eqb (length journal % n.entry_size) 0) || ltb n.largest_journal (length journal) then Err JournalLength else
+    if not (eqb (length answered) (length journal / n.entry_size * n.answer_size)) then Err AnswersLength else
+    Ok tt
 
 -- The call: state and answers of the entries, or both as they were.
 unfoldable pub run_journal : List ℕ → List ℕ → List ℕ → List ℕ → RunResult

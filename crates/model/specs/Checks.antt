@@ -1,5 +1,6 @@
 -- "Order of checks, operation 1": what a factor read at a point looks at, and the event it comes to.
-use Rattle.std.specs.Prelude.{ℕ, ◌*◌, ◌-◌, ◌/◌, ◌%◌, List, Bool, not, ◌&&◌, ◌||◌, ltb, leb, eqb, if◌then◌else◌}
+use Rattle.std.specs.Prelude.{ℕ, ◌*◌, ◌-◌, ◌/◌, ◌%◌, List, Bool, not, ◌&&◌, ◌||◌, ltb, leb, eqb, if◌then◌else◌, Option, Some, None, is_none}
+use Rattle.std.specs.Option.{unwrap_or, option_or}
 use Rattle.octets.specs.Octets.{same}
 use Rattle.model.specs.Words.{any, bit, missing}
 use Rattle.model.specs.Numbers as n
@@ -78,37 +79,39 @@ disabled_factor d =
     if eqb d n.factor_damaged then n.denied_authentication_factor_damaged else
     n.denied_authentication_factor_destroyed
 
+-- The event of the factor that was read, where one matched and is disabled.
+abbrev pub disabled_event : Option ℕ → Option ℕ
+disabled_event None = None
+disabled_event (Some d) = if eqb d 0 then None else Some (disabled_factor d)
+
 -- ── step 4: "Not waiting and two wanted: wait from now, event 0."
 
 -- "Not waiting and two wanted".
 unfoldable pub first_of_two : Situation → Bool
 first_of_two v = not (waiting v) && eqb v.point.factors_wanted n.two_factors
 
--- What steps 1 to 4 find, and the order in which it counts: `next` follows where none of the steps gives an event.
+-- What steps 1 to 4 find.
 unfoldable pub authentication_of : Situation → Entry → Authentication
 authentication_of v e =
     record {
       locked = still_locked v e;
       overdue = overdue v e;
       error = eqb e.argument n.format_error;
-      unmatched = not v.matched;
+      unmatched = is_none v.factor_disable;
       waiting = waiting v;
-      disabled = not (eqb v.factor_disable 0);
-      disabled_event = disabled_factor v.factor_disable;
+      disabled = disabled_event v.factor_disable;
       first_of_two = first_of_two v;
     }
 
--- The order of steps 1 to 4.
-abbrev pub authentication : Authentication → ℕ → ℕ
-authentication k next =
-    if k.locked then n.denied_lockout else
-    if k.overdue then n.denied_authentication_factor_timeout else
-    if k.error then n.denied_authentication_factor_error else
+-- The order of steps 1 to 4: the event of the first that gives one.
+abbrev pub authentication : Authentication → Option ℕ
+authentication k =
+    if k.locked then Some n.denied_lockout else
+    if k.overdue then Some n.denied_authentication_factor_timeout else
+    if k.error then Some n.denied_authentication_factor_error else
     if k.unmatched
-    then (if k.waiting then n.denied_incorrect_authentication_factor else n.denied_unknown_credential) else
-    if k.disabled then k.disabled_event else
-    if k.first_of_two then n.no_event else
-    next
+    then Some (if k.waiting then n.denied_incorrect_authentication_factor else n.denied_unknown_credential) else
+    option_or k.disabled (if k.first_of_two then Some n.no_event else None)
 
 -- ── step 5: "Time < activation 151; > expiry 152; disable 1→158, 2→153, 3→154; days 0: 155; uses 0: 156; last use known and
 -- elapsed > absentee days × 86,400: 157."
@@ -133,17 +136,17 @@ validity_of v e =
     }
 
 -- The order of step 5.
-abbrev pub validity : Validity → ℕ → ℕ
-validity k next =
-    if k.not_yet_active then n.denied_credential_not_yet_active else
-    if k.expired then n.denied_credential_expired else
-    if k.disabled then n.denied_credential_disabled else
-    if k.manual_disable then n.denied_credential_manual_disable else
-    if k.lockout then n.denied_credential_lockout else
-    if k.no_days then n.denied_credential_max_days else
-    if k.no_uses then n.denied_credential_max_uses else
-    if k.inactive then n.denied_credential_inactivity else
-    next
+abbrev pub validity : Validity → Option ℕ
+validity k =
+    if k.not_yet_active then Some n.denied_credential_not_yet_active else
+    if k.expired then Some n.denied_credential_expired else
+    if k.disabled then Some n.denied_credential_disabled else
+    if k.manual_disable then Some n.denied_credential_manual_disable else
+    if k.lockout then Some n.denied_credential_lockout else
+    if k.no_days then Some n.denied_credential_max_days else
+    if k.no_uses then Some n.denied_credential_max_uses else
+    if k.inactive then Some n.denied_credential_inactivity else
+    None
 
 -- ── step 9: "AUTHORIZE only, over enabled rules of both rights."
 
@@ -244,36 +247,36 @@ authorization_of v rules e =
     }
 
 -- The order of steps 7 to 10.
-abbrev pub authorization : Authorization → ℕ → ℕ
-authorization k next =
-    if k.deny_all then n.denied_deny_all else
-    if k.threat then n.denied_threat_level else
-    if k.negative then n.denied_no_access_rights else
+abbrev pub authorization : Authorization → Option ℕ
+authorization k =
+    if k.deny_all then Some n.denied_deny_all else
+    if k.threat then Some n.denied_threat_level else
+    if k.negative then Some n.denied_no_access_rights else
     if k.no_positive then
-    (if k.positive_located then n.denied_out_of_time_range else
+    Some (if k.positive_located then n.denied_out_of_time_range else
     if k.into_zone then n.denied_zone_no_access_rights else n.denied_point_no_access_rights) else
-    if k.hard_passback then n.denied_passback else
-    if k.at_lower_limit then n.denied_lower_occupancy_limit else
-    if k.at_upper_limit then n.denied_upper_occupancy_limit else
-    next
+    if k.hard_passback then Some n.denied_passback else
+    if k.at_lower_limit then Some n.denied_lower_occupancy_limit else
+    if k.at_upper_limit then Some n.denied_upper_occupancy_limit else
+    None
 
 -- ── steps 11 and 12: "Count adjust, Zone_To counting, count 4,294,967,295: 164." "12. Event 1."
 
 -- Step 11.
-unfoldable pub passage : Situation → ℕ → ℕ
-passage v next =
-    if v.point.count_adjust && v.zone_to.counting && eqb v.count_to n.largest_count then n.denied_other
-    else next
+unfoldable pub passage : Situation → Option ℕ
+passage v =
+    if v.point.count_adjust && v.zone_to.counting && eqb v.count_to n.largest_count then Some n.denied_other
+    else None
 
 -- Steps 6 to 11: "Master exemption skips to 11."
-unfoldable pub permission : Situation → Verdict → Entry → ℕ → ℕ
-permission v rules e next =
-    if v.credential.master then passage v next else authorization (authorization_of v rules e) (passage v next)
+unfoldable pub permission : Situation → Verdict → Entry → Option ℕ
+permission v rules e =
+    if v.credential.master then passage v else option_or (authorization (authorization_of v rules e)) (passage v)
 
 -- Steps 5 to 11, which ask nothing of the factor that was read.
-unfoldable pub entitlement : Situation → Verdict → Entry → ℕ → ℕ
-entitlement v rules e next = validity (validity_of v e) (permission v rules e next)
+unfoldable pub entitlement : Situation → Verdict → Entry → Option ℕ
+entitlement v rules e = option_or (validity (validity_of v e)) (permission v rules e)
 
 -- The event: "The first step that gives an event ends the checks." "12. Event 1."
 unfoldable pub event_of : Situation → Verdict → Entry → ℕ
-event_of v rules e = authentication (authentication_of v e) (entitlement v rules e n.granted)
+event_of v rules e = unwrap_or (option_or (authentication (authentication_of v e)) (entitlement v rules e)) n.granted

@@ -1,7 +1,7 @@
 -- What is proved over the definitions, by `fresh_state` and `run_journal` themselves: each statement is a type, and proofs/ has a theorem of it. The
 -- count, the part, the well-formed state, the days and the wrong tries are about whole lists of runs from fresh, rewritten shifts and the wrong tries that
 -- a grant finds about lists of runs on any state; the others about every site, state and run.
-use Rattle.std.specs.Prelude.{ℕ, suc, ◌+◌, ◌*◌, ◌/◌, ◌≤◌, ◌<◌, ◌≡◌, List, [], ◌∷◌, ◌++◌, map, Bool, true, false, not, ◌&&◌, ◌||◌, ltb, eqb, pos, length, take, drop, get_or}
+use Rattle.std.specs.Prelude.{ℕ, suc, ◌+◌, ◌*◌, ◌/◌, ◌≤◌, ◌<◌, ◌≡◌, List, [], ◌∷◌, ◌++◌, map, Bool, true, false, not, ◌&&◌, ◌||◌, ltb, eqb, pos, length, take, drop, get_or, Some, Ok, Err}
 use Rattle.octets.specs.Octets.{field}
 use Rattle.model.specs.Words.{all}
 use Rattle.model.specs.Numbers as n
@@ -11,7 +11,7 @@ use Rattle.model.specs.State.{panel, fresh, well_formed}
 use Rattle.model.specs.Entry.{entry_of, entries, operation_of, answer_bytes}
 use Rattle.model.specs.Checks.{time_fits}
 use Rattle.model.specs.Step.{no_answer}
-use Rattle.model.specs.Calls.{number, is_worked, check_site, fresh_state}
+use Rattle.model.specs.Calls.{Returned, number, is_worked, check_site, fresh_state}
 use Rattle.model.specs.Lists.{Run, run_on, state_after, returns, Worked, answers_in, worked_in, event_in, refusal_in, credential_in, History, begun, ended, worked, first_of}
 use Rattle.model.specs.Tally.{standing, tally_of, count_of}
 use Rattle.model.specs.Part.{Part, SelfContained, part_records, part_entries, part_answers, part_state, others_left_out}
@@ -20,8 +20,7 @@ use Rattle.model.specs.Shifts.{is_shift, until_midnight, since_midnight, Halved,
 use Rattle.model.specs.DayPasses.{is_grant_of, times_granted, dates_granted, days_in_site, state_left, last_of, days_taken, never_fall, different}
 use Rattle.model.specs.WrongTries.{tried_of, most_tries, tries_in, tries_since}
 use Rattle.model.specs.InPlace.{part_of, Reads}
-use Rattle.model.specs.declared.Returned.{Returned}
-use Rattle.model.specs.declared.Returned.TheVariants.{WorkedThrough, SiteLength, StateForm}
+use Rattle.model.specs.declared.Refusal.TheVariants.{SiteLength, StateForm}
 use Rattle.model.specs.declared.Operation.TheVariants.{Factor}
 
 -- Demand 3, the count: "every zone's count is T less the smaller of zero and T's lowest standing".
@@ -52,7 +51,7 @@ returns_other x r = not (eqb (number r) (number x))
 -- A panel never turns back its own state: after every list from fresh the state is well formed, and no run of the list returns 6.
 unfoldable pub WellFormed : Type 0
 WellFormed =
-    (h : History) → (well_formed h.site (ended h) ≡ true) × (all (returns_other StateForm) (returns h.site (begun h) h.runs) ≡ true)
+    (h : History) → (well_formed h.site (ended h) ≡ true) × (all (returns_other (Err StateForm)) (returns h.site (begun h) h.runs) ≡ true)
 
 -- "what is turned back changes nothing": a call that is turned back leaves every buffer as it was.
 unfoldable pub TurnedBack : Type 0
@@ -80,7 +79,7 @@ GrantEarned =
     (site state : List ℕ) (r : Run) (i : ℕ) → is_worked (run_on site state r).returned ≡ true →
     i < length r.journal / n.entry_size →
     event_in (get_or (answers_in (run_on site state r).answers) i []) ≡ n.granted →
-    (operation_of (entry_of (get_or (entries r.journal) i [])).operation ≡ Factor)
+    (operation_of (entry_of (get_or (entries r.journal) i [])).operation ≡ (Some Factor))
     × Earned (panel site (run_on site state (first_of i r)).state) (entry_of (get_or (entries r.journal) i []))
     (credential_id (credential_in (get_or (answers_in (run_on site state r).answers) i [])))
 
@@ -105,13 +104,13 @@ SameShifts =
 -- Their fresh states are such states.
 unfoldable pub FreshShifts : Type 0
 FreshShifts =
-    (site other : List ℕ) → check_site site ≡ WorkedThrough → check_site other ≡ WorkedThrough → Halved (records site) (records other) →
+    (site other : List ℕ) → check_site site ≡ Ok tt → check_site other ≡ Ok tt → Halved (records site) (records other) →
     Rewritten site other (fresh site) (fresh other)
 
 -- And the check of one returns what that of the other does, unless one of them is turned back for its length.
 unfoldable pub AcceptedShifts : Type 0
 AcceptedShifts =
-    (site other : List ℕ) → returns_other SiteLength (check_site site) ≡ true → returns_other SiteLength (check_site other) ≡ true → Halved (records site) (records other) →
+    (site other : List ℕ) → returns_other (Err SiteLength) (check_site site) ≡ true → returns_other (Err SiteLength) (check_site other) ≡ true → Halved (records site) (records other) →
     check_site site ≡ check_site other
 
 -- Day passes (document 02, job 5), after every list from fresh, whatever the clock does: last grant is "never when fresh, set by each grant".

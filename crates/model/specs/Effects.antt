@@ -1,5 +1,5 @@
 -- What follows from the event x of a factor read: grant, failures, last use, marks, and the answer.
-use Rattle.std.specs.Prelude.{ℕ, ◌+◌, ◌-◌, ◌/◌, ◌%◌, Bool, true, not, ◌&&◌, ◌||◌, ltb, leb, eqb, if◌then◌else◌}
+use Rattle.std.specs.Prelude.{ℕ, ◌+◌, ◌-◌, ◌/◌, ◌%◌, Bool, true, not, ◌&&◌, ◌||◌, ltb, leb, eqb, if◌then◌else◌, Some, None}
 use Rattle.model.specs.Numbers as n
 use Rattle.model.specs.Numbers.{NONE, NEVER, UNLIMITED}
 use Rattle.model.specs.Site.{zone_id, point_id, credential_id}
@@ -198,20 +198,11 @@ unfoldable pub outcome_with : Situation → Entry → ℕ → ℕ → Credential
 outcome_with v e x m c p =
     record {
       answer = answer_with v x m c;
-      point = record { written = true; instance = point_id e.instance; state = p };
-      credential = record { written = not (eqb x n.no_event); instance = c; state = credential_after v e x };
-      zone_to =
-          record {
-            written = counts v x v.zone_to.counting;
-            instance = v.point.zone_to;
-            count = count_after v x;
-          };
+      point = Some (record { instance = point_id e.instance; state = p });
+      credential = if eqb x n.no_event then None else Some (record { instance = c; state = credential_after v e x });
+      zone_to = if counts v x v.zone_to.counting then Some (record { instance = v.point.zone_to; state = count_after v x }) else None;
       zone_from =
-          record {
-            written = counts v x v.zone_from.counting;
-            instance = v.point.zone_from;
-            count = v.count_from - 1;
-          };
+          if counts v x v.zone_from.counting then Some (record { instance = v.point.zone_from; state = v.count_from - 1 }) else None;
     }
 
 -- The outcome of a factor read that came to the event x.

@@ -1,14 +1,12 @@
 -- "A list, in both halves, is of journal runs on one accepted site, each with a journal and answers of its own. Its entries are those of
 -- the journals worked through, in turn; a journal turned back adds nothing."
-use Rattle.std.specs.Prelude.{ℕ, ◌*◌, ◌/◌, ◌≡◌, List, [], ◌∷◌, ◌++◌, map, length, take, if◌then◌else◌}
+use Rattle.std.specs.Prelude.{ℕ, ◌*◌, ◌/◌, ◌≡◌, List, [], ◌∷◌, ◌++◌, map, length, take, if◌then◌else◌, Ok}
 use Rattle.octets.specs.Octets.{field, groups}
 use Rattle.model.specs.Numbers.{entry_size, answer_size}
 use Rattle.model.specs.State.{Panel, panel}
 use Rattle.model.specs.Entry.{entries, entry_of}
 use Rattle.model.specs.Step.{panels}
-use Rattle.model.specs.Calls.{is_worked, fresh_state, RunResult, run_journal}
-use Rattle.model.specs.declared.Returned.{Returned}
-use Rattle.model.specs.declared.Returned.TheVariants.{WorkedThrough}
+use Rattle.model.specs.Calls.{Returned, is_worked, fresh_state, RunResult, run_journal}
 
 -- A run: the journal's bytes, and the bytes of the buffer that is lent for the answers.
 pub record Run : Type 0 where
@@ -74,7 +72,7 @@ credential_in answer = field 8 4 answer
 pub record History : Type 0 where
   pub site : List ℕ
   pub buffer : List ℕ
-  pub accepted : (fresh_state site buffer).returned ≡ WorkedThrough
+  pub accepted : (fresh_state site buffer).returned ≡ Ok tt
   pub runs : List Run
 
 -- The fresh state that the list starts from.

@@ -1,5 +1,5 @@
 -- "The self-contained part (demand 3)".
-use Rattle.std.specs.Prelude.{ℕ, ◌*◌, ◌/◌, ◌≡◌, Bool, true, false, not, ◌&&◌, ◌||◌, eqb, length, take, if◌then◌else◌}
+use Rattle.std.specs.Prelude.{ℕ, ◌*◌, ◌/◌, ◌≡◌, Bool, true, false, not, ◌&&◌, ◌||◌, eqb, length, take, if◌then◌else◌, Option, Some, None}
 use mathlib.Core.List.{List, [], ◌∷◌, map, flatten}
 use Rattle.std.specs.Bool.{beq}
 use Rattle.model.specs.Words.{keep, all, missing}
@@ -13,7 +13,7 @@ use Rattle.model.specs.Step.{situation_of}
 use Rattle.model.specs.Calls.{is_worked}
 use Rattle.model.specs.Lists.{Run, run_on, Worked, refusal_in, History, begun, ended, worked}
 use Rattle.model.specs.declared.RecordKind.{RecordKind}
-use Rattle.model.specs.declared.RecordKind.TheVariants.{OfZone, OfPoint, OfRule, OfCredential, OfFactor, OfUnknown}
+use Rattle.model.specs.declared.RecordKind.TheVariants.{OfZone, OfPoint, OfRule, OfCredential, OfFactor}
 use Rattle.model.specs.declared.ZoneId.{ZoneId}
 use Rattle.model.specs.declared.PointId.{PointId}
 use Rattle.model.specs.declared.CredentialId.{CredentialId}
@@ -21,7 +21,7 @@ use Rattle.model.specs.declared.RightsId.{RightsId}
 use Rattle.model.specs.declared.Entry.{Entry}
 use Rattle.model.specs.declared.Situation.{Situation}
 use Rattle.model.specs.declared.Operation.{Operation}
-use Rattle.model.specs.declared.Operation.TheVariants.{Factor, SetCount, AdjustCount, SetDisable, SetService, Unknown}
+use Rattle.model.specs.declared.Operation.TheVariants.{Factor, SetCount, AdjustCount, SetDisable, SetService}
 
 -- "A part is a set of zones, points, credentials and rights numbers".
 pub record Part : Type 0 where
@@ -65,13 +65,13 @@ credential_inside P s =
     || on_side P n.access_rule (credential_of s).first_rights.0 true && on_side P n.access_rule (credential_of s).second_rights.0 true
 
 -- Both, of any site record.
-abbrev pub inside_as : RecordKind → Part → List ℕ → Bool
-inside_as OfZone P s = true
-inside_as OfPoint P s = point_inside P s
-inside_as OfRule P s = true
-inside_as OfCredential P s = credential_inside P s
-inside_as OfFactor P s = true
-inside_as OfUnknown P s = true
+abbrev pub inside_as : Option RecordKind → Part → List ℕ → Bool
+inside_as (Some OfZone) P s = true
+inside_as (Some OfPoint) P s = point_inside P s
+inside_as (Some OfRule) P s = true
+inside_as (Some OfCredential) P s = credential_inside P s
+inside_as (Some OfFactor) P s = true
+inside_as None P s = true
 
 -- By its kind.
 unfoldable pub inside : Part → List ℕ → Bool
@@ -95,13 +95,13 @@ identified_inside P ss e =
     || beq (member P n.access_credential (instance (identified ss e))) (member P n.access_point e.instance)
 
 -- Asked of factor reads alone; x is the point's records.
-abbrev pub read_inside_as : Operation → Part → Panel → Entry → Pair → Bool
-read_inside_as Factor P ps e x = not (identifies (situation_of ps e x) e) || identified_inside P (sites ps) e
-read_inside_as SetCount P ps e x = true
-read_inside_as AdjustCount P ps e x = true
-read_inside_as SetDisable P ps e x = true
-read_inside_as SetService P ps e x = true
-read_inside_as Unknown P ps e x = true
+abbrev pub read_inside_as : Option Operation → Part → Panel → Entry → Pair → Bool
+read_inside_as (Some Factor) P ps e x = not (identifies (situation_of ps e x) e) || identified_inside P (sites ps) e
+read_inside_as (Some SetCount) P ps e x = true
+read_inside_as (Some AdjustCount) P ps e x = true
+read_inside_as (Some SetDisable) P ps e x = true
+read_inside_as (Some SetService) P ps e x = true
+read_inside_as None P ps e x = true
 
 -- An entry at the panel that it found.
 unfoldable pub entry_inside : Part → Panel → Entry → Bool

@@ -1,5 +1,5 @@
 -- "Site records, 32 bytes each, no header": their fields, and which record a number names.
-use Rattle.std.specs.Prelude.{ℕ, ◌/◌, List, [], ◌∷◌, Bool, ◌&&◌, eqb, length, take, drop, if◌then◌else◌}
+use Rattle.std.specs.Prelude.{ℕ, ◌/◌, List, [], ◌∷◌, Bool, ◌&&◌, eqb, length, take, drop, if◌then◌else◌, Option, Some, None}
 use Rattle.octets.specs.Octets.{field, groups}
 use Rattle.model.specs.Words.{bit}
 use Rattle.model.specs.Numbers.{NONE, record_size, access_zone, access_point, access_rule, access_credential, authentication_factor}
@@ -8,7 +8,7 @@ use Rattle.model.specs.declared.PointId.{PointId}
 use Rattle.model.specs.declared.CredentialId.{CredentialId}
 use Rattle.model.specs.declared.RightsId.{RightsId}
 use Rattle.model.specs.declared.RecordKind.{RecordKind}
-use Rattle.model.specs.declared.RecordKind.TheVariants.{OfZone, OfPoint, OfRule, OfCredential, OfFactor, OfUnknown}
+use Rattle.model.specs.declared.RecordKind.TheVariants.{OfZone, OfPoint, OfRule, OfCredential, OfFactor}
 use Rattle.model.specs.declared.Zone.{Zone}
 use Rattle.model.specs.declared.Point.{Point}
 use Rattle.model.specs.declared.Credential.{Credential}
@@ -37,14 +37,14 @@ abbrev pub kind : List ℕ → ℕ
 kind s = field 0 1 s
 
 -- Its name: "Kind 1, zone", "Kind 2, point", "Kind 3, rule", "Kind 4, credential", "Kind 5, factor".
-abbrev pub record_kind : List ℕ → RecordKind
+abbrev pub record_kind : List ℕ → Option RecordKind
 record_kind s =
-    if eqb (kind s) access_zone then OfZone else
-    if eqb (kind s) access_point then OfPoint else
-    if eqb (kind s) access_rule then OfRule else
-    if eqb (kind s) access_credential then OfCredential else
-    if eqb (kind s) authentication_factor then OfFactor else
-    OfUnknown
+    if eqb (kind s) access_zone then Some OfZone else
+    if eqb (kind s) access_point then Some OfPoint else
+    if eqb (kind s) access_rule then Some OfRule else
+    if eqb (kind s) access_credential then Some OfCredential else
+    if eqb (kind s) authentication_factor then Some OfFactor else
+    None
 
 -- "1 flags".
 abbrev pub flags : List ℕ → ℕ

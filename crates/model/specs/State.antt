@@ -1,5 +1,5 @@
 -- "State records, one of 32 bytes per site record": their fields, the panel that site and state make, fresh, well formed.
-use Rattle.std.specs.Prelude.{ℕ, zero, suc, ◌/◌, Bool, false, not, ◌&&◌, ◌||◌, ltb, leb, eqb, length, take, drop, if◌then◌else◌}
+use Rattle.std.specs.Prelude.{ℕ, zero, suc, ◌/◌, Bool, false, not, ◌&&◌, ◌||◌, ltb, leb, eqb, length, take, drop, if◌then◌else◌, Option, Some, None}
 use mathlib.Core.List.{List, [], ◌∷◌, ◌++◌, map, flatten}
 use Rattle.octets.specs.Octets.{field, digits}
 use Rattle.model.specs.Words.{all, zeros, bit_of}
@@ -7,7 +7,7 @@ use Rattle.model.specs.Numbers.{NONE, NEVER, record_size, access_zone, access_po
 use Rattle.model.specs.Site.{zone_id, point_id, credential_id, record_kind, reference, point_of, credential_of, disable_given, uses_given, days_given, is_at, records}
 use Rattle.model.specs.Accept.{clear, none_or_exists}
 use Rattle.model.specs.declared.RecordKind.{RecordKind}
-use Rattle.model.specs.declared.RecordKind.TheVariants.{OfZone, OfPoint, OfRule, OfCredential, OfFactor, OfUnknown}
+use Rattle.model.specs.declared.RecordKind.TheVariants.{OfZone, OfPoint, OfRule, OfCredential, OfFactor}
 use Rattle.model.specs.declared.ZoneId.{ZoneId}
 use Rattle.model.specs.declared.CredentialId.{CredentialId}
 use Rattle.model.specs.declared.PointState.{PointState}
@@ -122,9 +122,9 @@ unfoldable pub store : ℕ → ℕ → List ℕ → Panel → Panel
 store k i b [] = []
 store k i b (x ∷ xs) = if is_at k i x.0 then (x.0, b) ∷ xs else x ∷ store k i b xs
 
--- The same where the flag is set; NONE is never written.
-unfoldable pub write : Bool → ℕ → ℕ → List ℕ → Panel → Panel
-write on k i b ps = if on && not (eqb i NONE) then store k i b ps else ps
+-- The same of a reference; NONE is never written.
+unfoldable pub write : ℕ → ℕ → List ℕ → Panel → Panel
+write k i b ps = if eqb i NONE then ps else store k i b ps
 
 -- ── "Fresh: uses, days, disable from the site; references NONE; last use and entered never; else zero." "Rule, factor: zero."
 
@@ -163,13 +163,13 @@ unfoldable pub fresh_credential : List ℕ → CredentialState
 fresh_credential s = fresh_with (uses_given s) (days_given s) (disable_given s)
 
 -- The fresh record of a site record; "Rule, factor: zero", and so is a zone's.
-abbrev pub fresh_record_as : RecordKind → List ℕ → List ℕ
-fresh_record_as OfZone s = zeros record_size
-fresh_record_as OfPoint s = point_bytes fresh_point
-fresh_record_as OfRule s = zeros record_size
-fresh_record_as OfCredential s = credential_bytes (fresh_credential s)
-fresh_record_as OfFactor s = zeros record_size
-fresh_record_as OfUnknown s = zeros record_size
+abbrev pub fresh_record_as : Option RecordKind → List ℕ → List ℕ
+fresh_record_as (Some OfZone) s = zeros record_size
+fresh_record_as (Some OfPoint) s = point_bytes fresh_point
+fresh_record_as (Some OfRule) s = zeros record_size
+fresh_record_as (Some OfCredential) s = credential_bytes (fresh_credential s)
+fresh_record_as (Some OfFactor) s = zeros record_size
+fresh_record_as None s = zeros record_size
 
 -- By its kind.
 unfoldable pub fresh_record : List ℕ → List ℕ
@@ -207,13 +207,13 @@ credential_well ss s t =
     && below_most (credential_state_of t).wrong_tries (credential_of s).most_wrong_tries
 
 -- A state record, beside its site record, in a site of the records ss.
-abbrev pub record_well_as : RecordKind → List (List ℕ) → Pair → Bool
-record_well_as OfZone ss x = zone_well x.1
-record_well_as OfPoint ss x = point_well ss x.0 x.1
-record_well_as OfRule ss x = clear 0 record_size x.1
-record_well_as OfCredential ss x = credential_well ss x.0 x.1
-record_well_as OfFactor ss x = clear 0 record_size x.1
-record_well_as OfUnknown ss x = clear 0 record_size x.1
+abbrev pub record_well_as : Option RecordKind → List (List ℕ) → Pair → Bool
+record_well_as (Some OfZone) ss x = zone_well x.1
+record_well_as (Some OfPoint) ss x = point_well ss x.0 x.1
+record_well_as (Some OfRule) ss x = clear 0 record_size x.1
+record_well_as (Some OfCredential) ss x = credential_well ss x.0 x.1
+record_well_as (Some OfFactor) ss x = clear 0 record_size x.1
+record_well_as None ss x = clear 0 record_size x.1
 
 -- By the kind of its site record.
 unfoldable pub record_well : List (List ℕ) → Pair → Bool

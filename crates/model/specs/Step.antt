@@ -1,5 +1,5 @@
 -- One entry at the panel: its situation, its outcome under its operation, the records written; then a list of entries.
-use Rattle.std.specs.Prelude.{ℕ, ◌+◌, ◌-◌, List, [], ◌∷◌, Bool, true, false, not, ltb, leb, eqb, if◌then◌else◌}
+use Rattle.std.specs.Prelude.{ℕ, ◌+◌, ◌-◌, List, [], ◌∷◌, Bool, true, false, not, ltb, leb, eqb, if◌then◌else◌, Option, Some, None}
 use Rattle.model.specs.Words.{missing}
 use Rattle.model.specs.Numbers as n
 use Rattle.model.specs.Numbers.{NONE}
@@ -8,33 +8,21 @@ use Rattle.model.specs.State.{Pair, Panel, sites, find, seek_zone, seek_credenti
 use Rattle.model.specs.Entry.{operation_of, object_kind, in_form}
 use Rattle.model.specs.Checks.{factor_for, credential_read, verdict, event_of}
 use Rattle.model.specs.Effects.{next_tag, outcome_of}
+use Rattle.model.specs.declared.ZoneId.{ZoneId}
+use Rattle.model.specs.declared.PointId.{PointId}
 use Rattle.model.specs.declared.CredentialId.{CredentialId}
 use Rattle.model.specs.declared.Situation.{Situation}
 use Rattle.model.specs.declared.Verdict.{Verdict}
 use Rattle.model.specs.declared.Entry.{Entry}
 use Rattle.model.specs.declared.Answer.{Answer}
-use Rattle.model.specs.declared.PointWrite.{PointWrite}
-use Rattle.model.specs.declared.CredentialWrite.{CredentialWrite}
-use Rattle.model.specs.declared.CountWrite.{CountWrite}
+use Rattle.model.specs.declared.Write.{Write}
 use Rattle.model.specs.declared.Outcome.{Outcome}
 use Rattle.model.specs.declared.PointState.{PointState}
 use Rattle.model.specs.declared.CredentialState.{CredentialState}
 use Rattle.model.specs.declared.Operation.{Operation}
-use Rattle.model.specs.declared.Operation.TheVariants.{Factor, SetCount, AdjustCount, SetDisable, SetService, Unknown}
+use Rattle.model.specs.declared.Operation.TheVariants.{Factor, SetCount, AdjustCount, SetDisable, SetService}
 
--- ── what an outcome leaves unwritten, and outcomes that write no state
-
--- No point is written.
-unfoldable pub no_point : PointWrite
-no_point = record { written = false; instance = point_id NONE; state = fresh_point }
-
--- No credential is written.
-unfoldable pub no_credential : CredentialWrite
-no_credential = record { written = false; instance = credential_id NONE; state = fresh_with 0 0 0 }
-
--- No zone is written.
-unfoldable pub no_count : CountWrite
-no_count = record { written = false; instance = zone_id NONE; count = 0 }
+-- ── outcomes that write no state
 
 -- "event 0, credential NONE, no marks".
 abbrev pub no_answer : ℕ → ℕ → ℕ → Answer
@@ -43,7 +31,7 @@ no_answer refusal tag counted =
 
 -- "nothing changes".
 unfoldable pub unchanged : Answer → Outcome
-unchanged a = record { answer = a; point = no_point; credential = no_credential; zone_to = no_count; zone_from = no_count }
+unchanged a = record { answer = a; point = None; credential = None; zone_to = None; zone_from = None }
 
 -- "A refusing answer is zero but for byte 3 and credential NONE."
 unfoldable pub refuse : ℕ → Outcome
@@ -54,6 +42,10 @@ refuse refusal = unchanged (no_answer refusal 0 0)
 -- The factor that the read names at the point, and the credential's records.
 unfoldable pub factor_read : Panel → Entry → Pair → List ℕ
 factor_read ps e p = factor_for (point_state_of p.1).waiting_credential e (sites ps)
+
+-- The disable of a factor, where there is one.
+abbrev pub disable_of : List ℕ → Option ℕ
+disable_of factor = if missing factor then None else Some (factor_disable factor)
 
 -- "the credential waited for, else the one that step 3 matched, else NONE".
 unfoldable pub number_read : Panel → Entry → Pair → CredentialId
@@ -81,8 +73,7 @@ situation_of ps e p =
       count_to = count (zone_to ps p).1;
       zone_from = zone_of (zone_from ps p).0;
       count_from = count (zone_from ps p).1;
-      matched = not (missing (factor_read ps e p));
-      factor_disable = factor_disable (factor_read ps e p);
+      factor_disable = disable_of (factor_read ps e p);
       number = number_read ps e p;
       credential = credential_of (credential_at ps e p).0;
       credential_state = credential_state_of (credential_at ps e p).1;
@@ -108,10 +99,10 @@ unfoldable pub count_outcome : Entry → ℕ → Outcome
 count_outcome e counted =
     record {
       answer = no_answer n.not_refused 0 counted;
-      point = no_point;
-      credential = no_credential;
-      zone_to = record { written = true; instance = zone_id e.instance; count = counted };
-      zone_from = no_count;
+      point = None;
+      credential = None;
+      zone_to = Some (record { instance = zone_id e.instance; state = counted });
+      zone_from = None;
     }
 
 -- "signed".
@@ -159,10 +150,10 @@ disable_outcome e c =
             credential = credential_id e.instance;
             count = 0;
           };
-      point = no_point;
-      credential = record { written = true; instance = credential_id e.instance; state = disable_after c e.argument };
-      zone_to = no_count;
-      zone_from = no_count;
+      point = None;
+      credential = Some (record { instance = credential_id e.instance; state = disable_after c e.argument });
+      zone_to = None;
+      zone_from = None;
     }
 
 -- ── operation 5: "argument 1 locks a point from now and drops its wait (event 7); 0 unlocks and zeroes failures (event 8)"
@@ -197,25 +188,25 @@ service_outcome e p counted =
             credential = credential_id NONE;
             count = counted;
           };
-      point = record { written = true; instance = point_id e.instance; state = service_after e p };
-      credential = no_credential;
-      zone_to = no_count;
-      zone_from = no_count;
+      point = Some (record { instance = point_id e.instance; state = service_after e p });
+      credential = None;
+      zone_to = None;
+      zone_from = None;
     }
 
 -- ── an entry: "per entry 7, 8, 9"
 
 -- The operation at its object; x is the object's records.
-abbrev pub worked_outcome : Operation → Panel → Entry → Pair → Outcome
-worked_outcome Factor ps e x = factor_outcome ps e x
-worked_outcome SetCount ps e x = count_outcome e e.amount
-worked_outcome AdjustCount ps e x = adjust_outcome e (count x.1)
-worked_outcome SetDisable ps e x = disable_outcome e (credential_state_of x.1)
-worked_outcome SetService ps e x = service_outcome e (point_state_of x.1) (count (zone_to ps x).1)
-worked_outcome Unknown ps e x = refuse n.refused_form
+abbrev pub worked_outcome : Option Operation → Panel → Entry → Pair → Outcome
+worked_outcome (Some Factor) ps e x = factor_outcome ps e x
+worked_outcome (Some SetCount) ps e x = count_outcome e e.amount
+worked_outcome (Some AdjustCount) ps e x = adjust_outcome e (count x.1)
+worked_outcome (Some SetDisable) ps e x = disable_outcome e (credential_state_of x.1)
+worked_outcome (Some SetService) ps e x = service_outcome e (point_state_of x.1) (count (zone_to ps x).1)
+worked_outcome None ps e x = refuse n.refused_form
 
 -- "per entry 7, 8, 9": form, object, then the operation.
-unfoldable pub outcome_as : Operation → Panel → Entry → Pair → Outcome
+unfoldable pub outcome_as : Option Operation → Panel → Entry → Pair → Outcome
 outcome_as o ps e x =
     if not (in_form o e) then refuse n.refused_form else
     if missing x.0 then refuse n.refused_no_object else
@@ -226,13 +217,18 @@ unfoldable pub entry_outcome : Panel → Entry → Outcome
 entry_outcome ps e =
     outcome_as (operation_of e.operation) ps e (find (object_kind (operation_of e.operation)) e.instance ps)
 
+-- What an outcome writes of an object of kind k, if it does: i is the number of an instance, b the bytes of a state.
+abbrev pub write_of : {I S : Type 0} → ℕ → (I → ℕ) → (S → List ℕ) → Option (Write I S) → Panel → Panel
+write_of k i b None ps = ps
+write_of k i b (Some w) ps = write k (i w.instance) (b w.state) ps
+
 -- "Only the state records of these objects are written."
 unfoldable pub apply : Outcome → Panel → Panel
 apply o ps =
-    write o.point.written n.access_point o.point.instance.0 (point_bytes o.point.state)
-    (write o.credential.written n.access_credential o.credential.instance.0 (credential_bytes o.credential.state)
-    (write o.zone_to.written n.access_zone o.zone_to.instance.0 (zone_bytes o.zone_to.count)
-    (write o.zone_from.written n.access_zone o.zone_from.instance.0 (zone_bytes o.zone_from.count) ps)))
+    write_of n.access_point (λ (i : PointId). i.0) point_bytes o.point
+    (write_of n.access_credential (λ (i : CredentialId). i.0) credential_bytes o.credential
+    (write_of n.access_zone (λ (i : ZoneId). i.0) zone_bytes o.zone_to
+    (write_of n.access_zone (λ (i : ZoneId). i.0) zone_bytes o.zone_from ps)))
 
 -- ── a list of entries: the panel that each finds, the panel after the last, and the answers
 

@@ -1,6 +1,6 @@
 -- "A zone's tally reads the site, the entries and, of their answers, event and refusal. T and L are whole numbers, negative too, and
 -- start at 0."
-use Rattle.std.specs.Prelude.{ℕ, ◌-◌, List, [], ◌∷◌, not, ◌&&◌, eqb, ℤ, pos, neg_ℤ, ◌+ℤ◌, ◌-ℤ◌, if◌then◌else◌}
+use Rattle.std.specs.Prelude.{ℕ, ◌-◌, List, [], ◌∷◌, not, ◌&&◌, eqb, ℤ, pos, neg_ℤ, ◌+ℤ◌, ◌-ℤ◌, if◌then◌else◌, Option, Some, None}
 use Rattle.std.specs.Int.Signed.{le_z}
 use Rattle.model.specs.Numbers as n
 use Rattle.model.specs.Site.{records, zone_of, point_of, is_at, find_in}
@@ -10,7 +10,7 @@ use Rattle.model.specs.Step.{is_negative}
 use Rattle.model.specs.Lists.{Worked, event_in, refusal_in, History, ended, worked}
 use Rattle.model.specs.declared.Entry.{Entry}
 use Rattle.model.specs.declared.Operation.{Operation}
-use Rattle.model.specs.declared.Operation.TheVariants.{Factor, SetCount, AdjustCount, SetDisable, SetService, Unknown}
+use Rattle.model.specs.declared.Operation.TheVariants.{Factor, SetCount, AdjustCount, SetDisable, SetService}
 
 -- "L is T's lowest standing".
 pub record Tally : Type 0 where
@@ -43,16 +43,16 @@ passed z ss p t =
     t
 
 -- One entry, with the event and the refusal of its answer. "Any other entry changes neither."
-abbrev pub tallied_as : Operation → ℕ → List (List ℕ) → Entry → ℕ → ℕ → Tally → Tally
-tallied_as Factor z ss e event refusal t =
+abbrev pub tallied_as : Option Operation → ℕ → List (List ℕ) → Entry → ℕ → ℕ → Tally → Tally
+tallied_as (Some Factor) z ss e event refusal t =
     if eqb event n.granted then passed z ss (find_in (is_at n.access_point e.instance) ss) t else t
-tallied_as SetCount z ss e event refusal t =
+tallied_as (Some SetCount) z ss e event refusal t =
     if eqb refusal n.not_refused && eqb e.instance z then set_to e.amount else t
-tallied_as AdjustCount z ss e event refusal t =
+tallied_as (Some AdjustCount) z ss e event refusal t =
     if eqb refusal n.not_refused && eqb e.instance z then move (signed e.amount) t else t
-tallied_as SetDisable z ss e event refusal t = t
-tallied_as SetService z ss e event refusal t = t
-tallied_as Unknown z ss e event refusal t = t
+tallied_as (Some SetDisable) z ss e event refusal t = t
+tallied_as (Some SetService) z ss e event refusal t = t
+tallied_as None z ss e event refusal t = t
 
 -- One worked entry: the tally reads its "event and refusal".
 unfoldable pub tallied : ℕ → List (List ℕ) → Worked → Tally → Tally

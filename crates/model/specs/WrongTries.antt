@@ -1,6 +1,6 @@
 -- Document 02, job 4: "Wrong codes follow the card." What the entries of a list and their answers show of a credential's wrong tries, beside its most in the
 -- site and its state.
-use Rattle.std.specs.Prelude.{ℕ, ◌+◌, List, [], ◌∷◌, Bool, true, false, not, ◌&&◌, ◌||◌, leb, eqb, if◌then◌else◌}
+use Rattle.std.specs.Prelude.{ℕ, ◌+◌, List, [], ◌∷◌, Bool, true, false, not, ◌&&◌, ◌||◌, leb, eqb, if◌then◌else◌, Option, Some, None}
 use Rattle.model.specs.Numbers as n
 use Rattle.model.specs.Site.{records, credential_of, disable_given, is_at, find_in}
 use Rattle.model.specs.State.{panel, find, credential_state_of}
@@ -8,7 +8,7 @@ use Rattle.model.specs.Entry.{entry_of, operation_of}
 use Rattle.model.specs.Lists.{Worked, event_in, refusal_in, credential_in, History, worked}
 use Rattle.model.specs.DayPasses.{is_grant_of}
 use Rattle.model.specs.declared.Operation.{Operation}
-use Rattle.model.specs.declared.Operation.TheVariants.{Factor, SetCount, AdjustCount, SetDisable, SetService, Unknown}
+use Rattle.model.specs.declared.Operation.TheVariants.{Factor, SetCount, AdjustCount, SetDisable, SetService}
 
 -- "Failures 131 and 132 shall be counted for each credential": one of them, in an answer that names the credential c.
 unfoldable pub is_try_of : ℕ → Worked → Bool
@@ -17,13 +17,13 @@ is_try_of c w =
     && eqb (credential_in w.answer) c
 
 -- "4. Set a credential's disable".
-abbrev pub sets_disable : Operation → Bool
-sets_disable Factor = false
-sets_disable SetCount = false
-sets_disable AdjustCount = false
-sets_disable SetDisable = true
-sets_disable SetService = false
-sets_disable Unknown = false
+abbrev pub sets_disable : Option Operation → Bool
+sets_disable (Some Factor) = false
+sets_disable (Some SetCount) = false
+sets_disable (Some AdjustCount) = false
+sets_disable (Some SetDisable) = true
+sets_disable (Some SetService) = false
+sets_disable None = false
 
 -- An accepted (refusal 0) operation 4 on the credential c.
 unfoldable pub is_disable_of : ℕ → Worked → Bool

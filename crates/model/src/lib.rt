@@ -6,16 +6,16 @@ pub mod numbers; // numbers.rt: the numbers of document 01 by name
 pub mod layout; // layout.rt: where the fields of records, entries and answers stand
 
 // Instances are numbered per object type, so that zone 7 is never credential 7: a number of each type is a type of its own.
-#[derive(Clone, Copy)]
+#[derive(Clone, Copy, PartialEq, Eq)]
 pub struct ZoneId(pub u32);
 
-#[derive(Clone, Copy)]
+#[derive(Clone, Copy, PartialEq, Eq)]
 pub struct PointId(pub u32);
 
-#[derive(Clone, Copy)]
+#[derive(Clone, Copy, PartialEq, Eq)]
 pub struct CredentialId(pub u32);
 
-#[derive(Clone, Copy)]
+#[derive(Clone, Copy, PartialEq, Eq)]
 pub struct RightsId(pub u32);
 
 // The kinds of site records.
@@ -26,7 +26,6 @@ pub enum RecordKind {
     OfRule,
     OfCredential,
     OfFactor,
-    OfUnknown,
 }
 
 // The fields of a zone's site record.
@@ -122,7 +121,6 @@ pub enum Operation {
     AdjustCount,
     SetDisable,
     SetService,
-    Unknown,
 }
 
 // An answer of 16 bytes.
@@ -136,7 +134,8 @@ pub struct Answer {
     pub count: u32,
 }
 
-// All that the order of checks looks at, but for the rules: the point, its zones, the factor read and its credential.
+// All that the order of checks looks at, but for the rules: the point, its zones, the disable of the factor that was read, where one matched, and its
+// credential.
 #[derive(Clone, Copy)]
 pub struct Situation {
     pub point: Point,
@@ -145,8 +144,7 @@ pub struct Situation {
     pub count_to: u32,
     pub zone_from: Zone,
     pub count_from: u32,
-    pub matched: bool,
-    pub factor_disable: u8,
+    pub factor_disable: Option<u8>,
     pub number: CredentialId,
     pub credential: Credential,
     pub credential_state: CredentialState,
@@ -160,7 +158,7 @@ pub struct Verdict {
     pub positive_located: bool,
 }
 
-// What steps 1 to 4 find.
+// What steps 1 to 4 find; of a disabled factor its event.
 #[derive(Clone, Copy)]
 pub struct Authentication {
     pub locked: bool,
@@ -168,8 +166,7 @@ pub struct Authentication {
     pub error: bool,
     pub unmatched: bool,
     pub waiting: bool,
-    pub disabled: bool,
-    pub disabled_event: u16,
+    pub disabled: Option<u16>,
     pub first_of_two: bool,
 }
 
@@ -200,48 +197,32 @@ pub struct Authorization {
     pub at_upper_limit: bool,
 }
 
-// A state record that an entry writes where the flag is set: of a point, of a credential, of a zone.
+// A state record that an entry writes: whose it is, and what it holds. A zone's holds its count.
 #[derive(Clone, Copy)]
-pub struct PointWrite {
-    pub written: bool,
-    pub instance: PointId,
-    pub state: PointState,
-}
-
-#[derive(Clone, Copy)]
-pub struct CredentialWrite {
-    pub written: bool,
-    pub instance: CredentialId,
-    pub state: CredentialState,
-}
-
-#[derive(Clone, Copy)]
-pub struct CountWrite {
-    pub written: bool,
-    pub instance: ZoneId,
-    pub count: u32,
+pub struct Write<I, S> {
+    pub instance: I,
+    pub state: S,
 }
 
 // What an entry does: its answer, and the state records that it writes.
 #[derive(Clone, Copy)]
 pub struct Outcome {
     pub answer: Answer,
-    pub point: PointWrite,
-    pub credential: CredentialWrite,
-    pub zone_to: CountWrite,
-    pub zone_from: CountWrite,
+    pub point: Option<Write<PointId, PointState>>,
+    pub credential: Option<Write<CredentialId, CredentialState>>,
+    pub zone_to: Option<Write<ZoneId, u32>>,
+    pub zone_from: Option<Write<ZoneId, u32>>,
 }
 
-// What a call returns: worked through, or why the input is turned back.
-#[derive(Clone, Copy)]
-pub enum Returned {
-    WorkedThrough,
-    SiteLength,
-    SiteField,
-    SiteTwice,
-    SiteMissing,
-    StateLength,
-    StateForm,
-    JournalLength,
-    AnswersLength,
+// Why a call turns its input back. The number of each is that of document 01; 7 to 9 refuse an entry.
+#[derive(Clone, Copy, PartialEq, Eq)]
+pub enum Refusal {
+    SiteLength = 1,
+    SiteField = 2,
+    SiteTwice = 3,
+    SiteMissing = 4,
+    StateLength = 5,
+    StateForm = 6,
+    JournalLength = 10,
+    AnswersLength = 11,
 }
