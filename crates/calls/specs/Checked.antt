@@ -1,7 +1,6 @@
 -- What the checks of a call leave behind, once they have built the index.
 use Rattle.std.specs.Prelude.{ℕ, ◌≡◌, List, true}
-use Rattle.model.specs.Calls.{is_worked}
-use Rattle.model.specs.declared.Returned.{Returned}
+use Rattle.model.specs.Calls.{Returned, is_worked}
 use Rattle.index.specs.Index.{Indexed}
 
 -- They return what the definition does, and the index is that of a site that they let pass.

@@ -1,4 +1,5 @@
 -- Shifts and their halves (beyond document 02): their bytes, and for each premise of the theorems a case without it, of which they do not hold.
+use Rattle.std.specs.Prelude.{Ok, Err}
 use Prim.Native.Nat.{ℕ}
 use mathlib.Core.Path.{◌≡◌, refl}
 use mathlib.Core.List.{List, [], ◌∷◌, ◌++◌, map}
@@ -13,7 +14,7 @@ use Rattle.model.specs.Calls.{number, check_site, check_state}
 use Rattle.model.specs.Lists.{Worked, History, returns, ended, worked, worked_in, event_in}
 use Rattle.model.specs.Shifts.{is_shift, following_days, until_midnight, since_midnight, stands_halved, stands_whole, Halved, others}
 use Rattle.model.specs.Demands.{returns_other}
-use Rattle.model.specs.declared.Returned.TheVariants.{WorkedThrough, SiteLength, SiteField, SiteTwice, SiteMissing, StateLength, StateForm, JournalLength, AnswersLength}
+use Rattle.model.specs.declared.Refusal.TheVariants.{SiteLength, SiteField, SiteTwice, SiteMissing, StateLength, StateForm, JournalLength, AnswersLength}
 use Rattle.model.proofs.Build.{history, cut, examples}
 use Rattle.cases.proofs.Change.{with_fields}
 use Rattle.cases.proofs.Fields.{mode, weekdays, from_minute_field, to_minute_field, first_rights}
@@ -164,7 +165,7 @@ pub record Differing : Type 0 where
   others_repeated : (stood one_rule.site (one_rule.site ++ card) ≡ true ∷ true ∷ []) × (numbers one_rule.site (one_rule.site ++ card) ≡ 0 ∷ 3 ∷ [])
   -- The number 1 alone is asked for; the same records, and a byte behind them.
   asked :
-      map (returns_other SiteLength) (WorkedThrough ∷ SiteLength ∷ SiteField ∷ SiteTwice ∷ SiteMissing ∷ StateLength ∷ StateForm ∷ JournalLength ∷ AnswersLength ∷ [])
+      map (returns_other (Err SiteLength)) ((Ok tt) ∷ (Err SiteLength) ∷ (Err SiteField) ∷ (Err SiteTwice) ∷ (Err SiteMissing) ∷ (Err StateLength) ∷ (Err StateForm) ∷ (Err JournalLength) ∷ (Err AnswersLength) ∷ [])
       ≡ true ∷ false ∷ true ∷ true ∷ true ∷ true ∷ true ∷ true ∷ true ∷ []
   stray_byte : numbers one_rule.site (one_rule.site ++ (0 ∷ [])) ++ numbers (one_rule.site ++ (0 ∷ [])) one_rule.site ≡ 0 ∷ 1 ∷ 1 ∷ 0 ∷ []
 

@@ -1,4 +1,5 @@
 -- "State records, one of 32 bytes per site record": their fields, fresh, and refusals 5 and 6.
+use Rattle.std.specs.Prelude.{Ok, Err}
 use Prim.Native.Nat.{ℕ}
 use mathlib.Core.Path.{◌≡◌, refl}
 use mathlib.Core.List.{List, [], ◌∷◌, ◌++◌, map, flatten}
@@ -7,7 +8,7 @@ use lib.ListN.{take, replicate}
 use Rattle.octets.specs.Octets.{put}
 use Rattle.model.specs.State.{count, zone_bytes, point_state_of, point_bytes, credential_state_of, credential_bytes}
 use Rattle.model.specs.Calls.{number, fresh_state, check_state}
-use Rattle.model.specs.declared.Returned.TheVariants.{WorkedThrough, SiteLength, SiteField, SiteTwice, SiteMissing, StateLength}
+use Rattle.model.specs.declared.Refusal.TheVariants.{SiteLength, SiteField, SiteTwice, SiteMissing, StateLength}
 use Rattle.model.proofs.Open.{definitions}
 use Rattle.cases.proofs.Change.{Field, with_fields}
 use Rattle.cases.proofs.Records.{record_of, tables}
@@ -116,7 +117,7 @@ every_kind =
 pub fresh_bytes :
     fresh_state every_kind (replicate 224 7)
     ≡ record {
-      returned = WorkedThrough;
+      returned = (Ok tt);
       state =
           flatten
           (replicate 32 0
@@ -136,15 +137,15 @@ fresh_bytes = refl
 -- Refusal 5: "state not as long as the site", after 1 to 4; the state is unchanged. "Fresh stops after 5."
 pub fresh_lengths :
     map (λ n. fresh_state every_kind (replicate n 7)) (223 ∷ 225 ∷ 0 ∷ [])
-    ≡ record { returned = StateLength; state = replicate 223 7 } ∷ record { returned = StateLength; state = replicate 225 7 }
-    ∷ record { returned = StateLength; state = [] } ∷ []
+    ≡ record { returned = (Err StateLength); state = replicate 223 7 } ∷ record { returned = (Err StateLength); state = replicate 225 7 }
+    ∷ record { returned = (Err StateLength); state = [] } ∷ []
 unfolding definitions tables put records_at every_kind
 fresh_lengths = refl
 
 pub fresh_refused :
     map (λ site. fresh_state (flatten site) (7 ∷ [])) (((0 ∷ []) ∷ []) ∷ (replicate 32 0 ∷ []) ∷ (zone_at 8 ∷ zone_at 8 ∷ []) ∷ (factor_with 1 5 7 ∷ []) ∷ [])
-    ≡ record { returned = SiteLength; state = 7 ∷ [] } ∷ record { returned = SiteField; state = 7 ∷ [] }
-    ∷ record { returned = SiteTwice; state = 7 ∷ [] } ∷ record { returned = SiteMissing; state = 7 ∷ [] } ∷ []
+    ≡ record { returned = (Err SiteLength); state = 7 ∷ [] } ∷ record { returned = (Err SiteField); state = 7 ∷ [] }
+    ∷ record { returned = (Err SiteTwice); state = 7 ∷ [] } ∷ record { returned = (Err SiteMissing); state = 7 ∷ [] } ∷ []
 unfolding definitions tables put records_at
 fresh_refused = refl
 

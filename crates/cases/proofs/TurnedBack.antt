@@ -1,11 +1,12 @@
 -- "Turned back": the journal run's refusals in their order, "Tried over the whole input as 1 to 6, 10, 11", and what they leave unchanged.
+use Rattle.std.specs.Prelude.{Ok, Err}
 use Prim.Native.Nat.{ℕ}
 use mathlib.Core.Path.{◌≡◌, refl}
 use mathlib.Core.List.{List, [], ◌∷◌, map, flatten}
 use lib.ListN.{replicate}
 use Rattle.octets.specs.Octets.{put}
-use Rattle.model.specs.Calls.{number, run_result, run_returned, run_journal}
-use Rattle.model.specs.declared.Returned.TheVariants.{WorkedThrough, SiteLength, SiteField, SiteTwice, SiteMissing, StateLength, StateForm, JournalLength, AnswersLength}
+use Rattle.model.specs.Calls.{Returned, number, run_result, run_returned, run_journal}
+use Rattle.model.specs.declared.Refusal.TheVariants.{SiteLength, SiteField, SiteTwice, SiteMissing, StateLength, StateForm, JournalLength, AnswersLength}
 use Rattle.model.proofs.Open.{definitions}
 use Rattle.cases.proofs.Records.{record_of, entry_with, tables}
 use Rattle.cases.proofs.SiteCheck.{zone_at, point_at, factor_with, records_at}
@@ -13,12 +14,12 @@ use Rattle.cases.proofs.SiteCheck.{zone_at, point_at, factor_with, records_at}
 -- "Returned": the number of each.
 pub returned_numbers :
     map number
-    (WorkedThrough ∷ SiteLength ∷ SiteField ∷ SiteTwice ∷ SiteMissing ∷ StateLength ∷ StateForm ∷ JournalLength ∷ AnswersLength ∷ [])
+    ((Ok tt) ∷ (Err SiteLength) ∷ (Err SiteField) ∷ (Err SiteTwice) ∷ (Err SiteMissing) ∷ (Err StateLength) ∷ (Err StateForm) ∷ (Err JournalLength) ∷ (Err AnswersLength) ∷ [])
     ≡ 0 ∷ 1 ∷ 2 ∷ 3 ∷ 4 ∷ 5 ∷ 6 ∷ 10 ∷ 11 ∷ []
 returned_numbers = refl
 
 -- "The entire result and the later contents of state and answers", each in its place.
-pub result_parts : run_result StateForm (1 ∷ []) (2 ∷ []) ≡ record { returned = StateForm; state = 1 ∷ []; answers = 2 ∷ [] }
+pub result_parts : run_result (Err StateForm) (1 ∷ []) (2 ∷ []) ≡ record { returned = (Err StateForm); state = 1 ∷ []; answers = 2 ∷ [] }
 result_parts = refl
 
 -- A run of zone 8: each buffer has every fault after the one that is named, and is unchanged.

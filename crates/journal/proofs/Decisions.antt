@@ -1,5 +1,5 @@
 -- What is decided of an entry on bytes is its outcome at the panel, and its places are those of the records that it names.
-use Rattle.std.specs.Prelude.{if◌then◌else◌}
+use Rattle.std.specs.Prelude.{if◌then◌else◌, Option, Some, None}
 use Prim.Native.Nat.{ℕ, ◌/◌, ◌%◌, ◌<◌}
 use native.Mathlib.Omega.{arith}
 use mathlib.Core.Path.{◌≡◌, refl, sym, ◌∙◌, ap}
@@ -29,7 +29,7 @@ use Rattle.journal.specs.declared.Decided.{Decided}
 use Rattle.model.specs.declared.Answer.{Answer}
 use Rattle.model.specs.declared.Entry.{Entry}
 use Rattle.model.specs.declared.Operation.{Operation}
-use Rattle.model.specs.declared.Operation.TheVariants.{Factor, SetCount, AdjustCount, SetDisable, SetService, Unknown}
+use Rattle.model.specs.declared.Operation.TheVariants.{Factor, SetCount, AdjustCount, SetDisable, SetService}
 
 -- ── the places of what is written
 
@@ -47,19 +47,19 @@ module _ (site state : List ℕ) (e : Entry) (place : Place) where
   unfolding count_outcome no_point no_credential no_count
   placed_count counted p = record { point = λ h. cc; credential = λ h. cc; zone_to = λ h. p; zone_from = λ h. cc }
 
-  placed_worked : (o : Operation) → place ≡ place_of (object_kind o) e.instance site →
+  placed_worked : (o : Option Operation) → place ≡ place_of (object_kind o) e.instance site →
       Placed site (worked_at o place e site state).outcome (worked_at o place e site state).places
   unfolding read_at served_at read_outcome adjust_outcome disable_outcome service_outcome no_point no_credential no_count
-  placed_worked Factor p =
+  placed_worked (Some Factor) p =
       if_holds (λ (d : Decided). Placed site d.outcome d.places) (point_of (part_at place site)).out_of_service (at_object (unchanged _) Nothing) (served_at place e site state)
       (placed_unchanged site _ _) (placed_factor site state place e _ p)
-  placed_worked SetCount p = placed_count e.amount p
-  placed_worked AdjustCount p =
+  placed_worked (Some SetCount) p = placed_count e.amount p
+  placed_worked (Some AdjustCount) p =
       if_holds (λ u. Placed site u (object_places place)) (ltb n.largest_count (adjusted (count (part_at place state)) e.amount)) (refuse n.refused_count) _
       (placed_refused site _ _) (placed_count _ p)
-  placed_worked SetDisable p = record { point = λ h. cc; credential = λ h. p; zone_to = λ h. cc; zone_from = λ h. cc }
-  placed_worked SetService p = record { point = λ h. p; credential = λ h. cc; zone_to = λ h. cc; zone_from = λ h. cc }
-  placed_worked Unknown p = placed_refused site _ _
+  placed_worked (Some SetDisable) p = record { point = λ h. cc; credential = λ h. p; zone_to = λ h. cc; zone_from = λ h. cc }
+  placed_worked (Some SetService) p = record { point = λ h. p; credential = λ h. cc; zone_to = λ h. cc; zone_from = λ h. cc }
+  placed_worked None p = placed_refused site _ _
 
 -- ── the object
 
@@ -76,14 +76,14 @@ there k i j site p =
     missing_none (part_at (At j) site) (length_group 32 (length site / 32) j site l (omega arith))
 
 -- An entry that has the form is of a known operation, whose object is looked up by its kind.
-object_place_law : (o : Operation) (e : Entry) (site : List ℕ) → in_form o e ≡ true → object_place o e.instance site ≡ place_of (object_kind o) e.instance site
+object_place_law : (o : Option Operation) (e : Entry) (site : List ℕ) → in_form o e ≡ true → object_place o e.instance site ≡ place_of (object_kind o) e.instance site
 unfolding in_form
-object_place_law Factor e site f = refl
-object_place_law SetCount e site f = refl
-object_place_law AdjustCount e site f = refl
-object_place_law SetDisable e site f = refl
-object_place_law SetService e site f = refl
-object_place_law Unknown e site f = cc
+object_place_law (Some Factor) e site f = refl
+object_place_law (Some SetCount) e site f = refl
+object_place_law (Some AdjustCount) e site f = refl
+object_place_law (Some SetDisable) e site f = refl
+object_place_law (Some SetService) e site f = refl
+object_place_law None e site f = cc
 
 -- ── the outcome
 
@@ -96,20 +96,20 @@ module _ (site state : List ℕ) (whole_site : length site % 32 ≡ 0) (same_len
   unfolding zone_to count_to to_at
   zone_count_law place = rw (seek_at site state whole_site same_length 1 (point_of (part_at place site)).zone_to.0)
 
-  worked_outcome_law : (o : Operation) (place : Place) →
+  worked_outcome_law : (o : Option Operation) (place : Place) →
       (worked_at o place e site state).outcome ≡ worked_outcome o (panel site state) e (part_at place site, part_at place state)
   unfolding read_at served_at read_outcome factor_outcome
-  worked_outcome_law Factor place =
+  worked_outcome_law (Some Factor) place =
       rw (situation_at site state whole_site same_length place e, rules_at_law site state whole_site same_length place e, zone_count_law place)
       (outcome_if (point_of (part_at place site)).out_of_service (at_object (unchanged _) Nothing) (served_at place e site state))
-  worked_outcome_law SetCount place = refl
-  worked_outcome_law AdjustCount place = refl
-  worked_outcome_law SetDisable place = refl
-  worked_outcome_law SetService place = rw (zone_count_law place)
-  worked_outcome_law Unknown place = refl
+  worked_outcome_law (Some SetCount) place = refl
+  worked_outcome_law (Some AdjustCount) place = refl
+  worked_outcome_law (Some SetDisable) place = refl
+  worked_outcome_law (Some SetService) place = rw (zone_count_law place)
+  worked_outcome_law None place = refl
 
   -- Of an entry that has the form.
-  found_outcome : (o : Operation) (place : Place) → place_of (object_kind o) e.instance site ≡ place →
+  found_outcome : (o : Option Operation) (place : Place) → place_of (object_kind o) e.instance site ≡ place →
       (found_at o place e site state).outcome
       ≡ (if missing (find (object_kind o) e.instance (panel site state)).0 then refuse n.refused_no_object
       else worked_outcome o (panel site state) e (find (object_kind o) e.instance (panel site state)))
@@ -117,13 +117,13 @@ module _ (site state : List ℕ) (whole_site : length site % 32 ≡ 0) (same_len
       rw (find_at site state whole_site same_length (object_kind o) e.instance, p, there (object_kind o) e.instance j site p) (worked_outcome_law o (At j))
   found_outcome o Nothing p = rw (find_at site state whole_site same_length (object_kind o) e.instance, p)
 
-  found_placed : (o : Operation) (place : Place) → place_of (object_kind o) e.instance site ≡ place →
+  found_placed : (o : Option Operation) (place : Place) → place_of (object_kind o) e.instance site ≡ place →
       Placed site (found_at o place e site state).outcome (found_at o place e site state).places
   found_placed o (At j) p = placed_worked site state e (At j) o (sym p)
   found_placed o Nothing p = placed_refused site _ _
 
   -- Of any entry.
-  as_outcome : (o : Operation) → (decided_as o e site state).outcome ≡ outcome_as o (panel site state) e (find (object_kind o) e.instance (panel site state))
+  as_outcome : (o : Option Operation) → (decided_as o e site state).outcome ≡ outcome_as o (panel site state) e (find (object_kind o) e.instance (panel site state))
   unfolding decided_as outcome_as
   as_outcome o = go (in_form o e) refl
     where
@@ -135,7 +135,7 @@ module _ (site state : List ℕ) (whole_site : length site % 32 ≡ 0) (same_len
       go true f = rw (object_place_law o e site f) (found_outcome o (place_of (object_kind o) e.instance site) refl)
       go false f = refl
 
-  as_placed : (o : Operation) → Placed site (decided_as o e site state).outcome (decided_as o e site state).places
+  as_placed : (o : Option Operation) → Placed site (decided_as o e site state).outcome (decided_as o e site state).places
   unfolding decided_as
   as_placed o = go (in_form o e) refl
     where

@@ -1,5 +1,5 @@
 -- The outcome of an entry on bytes, with the places of its records: form, object, then the operation.
-use Rattle.std.specs.Prelude.{ℕ, List, not, if◌then◌else◌}
+use Rattle.std.specs.Prelude.{ℕ, List, not, if◌then◌else◌, Option, Some, None}
 use Rattle.model.specs.Numbers as n
 use Rattle.model.specs.Site.{point_id, records, point_of}
 use Rattle.model.specs.State.{count, point_state_of, credential_state_of}
@@ -16,7 +16,7 @@ use Rattle.model.specs.declared.Verdict.{Verdict}
 use Rattle.model.specs.declared.Entry.{Entry}
 use Rattle.model.specs.declared.Outcome.{Outcome}
 use Rattle.model.specs.declared.Operation.{Operation}
-use Rattle.model.specs.declared.Operation.TheVariants.{Factor, SetCount, AdjustCount, SetDisable, SetService, Unknown}
+use Rattle.model.specs.declared.Operation.TheVariants.{Factor, SetCount, AdjustCount, SetDisable, SetService}
 use Rattle.journal.specs.declared.Places.{Places}
 use Rattle.journal.specs.declared.Decided.{Decided}
 
@@ -53,22 +53,22 @@ read_at place e site state =
     else served_at place e site state
 
 -- The operation at its object, which stands at a place.
-abbrev pub worked_at : Operation → Place → Entry → List ℕ → List ℕ → Decided
-worked_at Factor place e site state = read_at place e site state
-worked_at SetCount place e site state = at_object (count_outcome e e.amount) place
-worked_at AdjustCount place e site state = at_object (adjust_outcome e (count (part_at place state))) place
-worked_at SetDisable place e site state = at_object (disable_outcome e (credential_state_of (part_at place state))) place
-worked_at SetService place e site state =
+abbrev pub worked_at : Option Operation → Place → Entry → List ℕ → List ℕ → Decided
+worked_at (Some Factor) place e site state = read_at place e site state
+worked_at (Some SetCount) place e site state = at_object (count_outcome e e.amount) place
+worked_at (Some AdjustCount) place e site state = at_object (adjust_outcome e (count (part_at place state))) place
+worked_at (Some SetDisable) place e site state = at_object (disable_outcome e (credential_state_of (part_at place state))) place
+worked_at (Some SetService) place e site state =
     at_object (service_outcome e (point_state_of (part_at place state)) (count_to place site state)) place
-worked_at Unknown place e site state = at_object (refuse n.refused_form) place
+worked_at None place e site state = at_object (refuse n.refused_form) place
 
 -- The same, or refusal 8 where there is no object.
-abbrev pub found_at : Operation → Place → Entry → List ℕ → List ℕ → Decided
+abbrev pub found_at : Option Operation → Place → Entry → List ℕ → List ℕ → Decided
 found_at o (At j) e site state = worked_at o (At j) e site state
 found_at o Nothing e site state = at_object (refuse n.refused_no_object) Nothing
 
 -- An entry: refusal 7 where it has not the form, then its object.
-unfoldable pub decided_as : Operation → Entry → List ℕ → List ℕ → Decided
+unfoldable pub decided_as : Option Operation → Entry → List ℕ → List ℕ → Decided
 decided_as o e site state =
     if not (in_form o e) then at_object (refuse n.refused_form) Nothing
     else found_at o (object_place o e.instance site) e site state

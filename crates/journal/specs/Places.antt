@@ -1,5 +1,5 @@
 -- Records of lent bytes by their places: what is read there, and what a write there leaves.
-use Rattle.std.specs.Prelude.{ℕ, ◌/◌, ◌≡◌, List, [], Bool, false, not, ◌&&◌, eqb, ltb, length, get_or, if◌then◌else◌}
+use Rattle.std.specs.Prelude.{ℕ, ◌/◌, ◌≡◌, List, [], Bool, false, not, ◌&&◌, eqb, ltb, length, get_or, if◌then◌else◌, Option, Some, None}
 use Rattle.octets.specs.Octets.{groups, with_part}
 use Rattle.model.specs.Numbers as n
 use Rattle.model.specs.Numbers.{NONE}
@@ -10,7 +10,7 @@ use Rattle.site.specs.declared.Place.TheVariants.{At, Nothing}
 use Rattle.model.specs.declared.ZoneId.{ZoneId}
 use Rattle.model.specs.declared.CredentialId.{CredentialId}
 use Rattle.model.specs.declared.Operation.{Operation}
-use Rattle.model.specs.declared.Operation.TheVariants.{Factor, SetCount, AdjustCount, SetDisable, SetService, Unknown}
+use Rattle.model.specs.declared.Operation.TheVariants.{Factor, SetCount, AdjustCount, SetDisable, SetService}
 use Rattle.model.specs.declared.Outcome.{Outcome}
 use Rattle.journal.specs.declared.Places.{Places}
 
@@ -31,13 +31,13 @@ abbrev pub seek_credential : CredentialId → List ℕ → Place
 seek_credential c site = seek_place n.access_credential c.0 site
 
 -- The place of the object that an instance names under an operation; an unknown one names none.
-abbrev pub object_place : Operation → ℕ → List ℕ → Place
-object_place Factor i site = place_of n.access_point i site
-object_place SetCount i site = place_of n.access_zone i site
-object_place AdjustCount i site = place_of n.access_zone i site
-object_place SetDisable i site = place_of n.access_credential i site
-object_place SetService i site = place_of n.access_point i site
-object_place Unknown i site = Nothing
+abbrev pub object_place : Option Operation → ℕ → List ℕ → Place
+object_place (Some Factor) i site = place_of n.access_point i site
+object_place (Some SetCount) i site = place_of n.access_zone i site
+object_place (Some AdjustCount) i site = place_of n.access_zone i site
+object_place (Some SetDisable) i site = place_of n.access_credential i site
+object_place (Some SetService) i site = place_of n.access_point i site
+object_place None i site = Nothing
 
 -- Where a write is made: at its place, where the flag is set, the instance is not NONE and the place is among those of n records.
 abbrev pub place_below : ℕ → Place → Place

@@ -1,5 +1,6 @@
 -- With room every text fits: the lines of a run that is worked through, since its answers are 16 bytes for an entry, and every number.
 -- What is then written at the head of the text is what `print_into` has, and its length is within the text.
+use Rattle.std.specs.Prelude.{Ok, Err}
 use Prim.Native.Nat.{ℕ, ◌*◌, ◌/◌, ◌≤◌, ◌<◌}
 use native.Mathlib.Omega.{arith}
 use mathlib.Core.Path.{◌≡◌, refl, ap}
@@ -8,26 +9,25 @@ use mathlib.Core.Bool.{Bool, true, false}
 use lib.Dec.{leb, lit<}
 use lib.ListN.{length, drop, length-append}
 use borrow.Author.Tests.{leb-true}
-use Rattle.model.specs.Calls.{number, is_worked, fresh_state, run_journal}
+use Rattle.model.specs.Calls.{Returned, number, is_worked, fresh_state, run_journal}
 use Rattle.model.specs.Print.{answers_text, decimal_line}
 use Rattle.model.proofs.Laws.{and_left, and_right}
 use Rattle.calls.proofs.Laws.{run_lengths}
 use Rattle.print.specs.Print.{has_room, text_of, run_into, PrintResult, print_result, print_into}
 use Rattle.print.specs.declared.Printed.TheVariants.{Written, NoRoom}
-use Rattle.model.specs.declared.Returned.{Returned}
-use Rattle.model.specs.declared.Returned.TheVariants.{WorkedThrough, SiteLength, SiteField, SiteTwice, SiteMissing, StateLength, StateForm, JournalLength, AnswersLength}
+use Rattle.model.specs.declared.Refusal.TheVariants.{SiteLength, SiteField, SiteTwice, SiteMissing, StateLength, StateForm, JournalLength, AnswersLength}
 
 -- Every number has at most two digits.
 pub number_short : (r : Returned) → number r < 100
-number_short WorkedThrough = lit< tt
-number_short SiteLength = lit< tt
-number_short SiteField = lit< tt
-number_short SiteTwice = lit< tt
-number_short SiteMissing = lit< tt
-number_short StateLength = lit< tt
-number_short StateForm = lit< tt
-number_short JournalLength = lit< tt
-number_short AnswersLength = lit< tt
+number_short (Ok tt) = lit< tt
+number_short (Err SiteLength) = lit< tt
+number_short (Err SiteField) = lit< tt
+number_short (Err SiteTwice) = lit< tt
+number_short (Err SiteMissing) = lit< tt
+number_short (Err StateLength) = lit< tt
+number_short (Err StateForm) = lit< tt
+number_short (Err JournalLength) = lit< tt
+number_short (Err AnswersLength) = lit< tt
 
 pub number_fits : (journal text : List ℕ) → has_room journal text ≡ true → 3 ≤ length text
 unfolding has_room

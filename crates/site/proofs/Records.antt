@@ -1,5 +1,5 @@
 -- The records of a site: what is found of them or is not, what passes, and what a rule in range names.
-use Rattle.std.specs.Prelude.{if◌then◌else◌}
+use Rattle.std.specs.Prelude.{if◌then◌else◌, Some}
 use Prim.Native.Nat.{ℕ, zero, suc, ◌+◌, ◌*◌, ◌/◌, ◌≤◌, ◌<◌}
 use mathlib.Core.Path.{◌≡◌, refl}
 use mathlib.Core.List.{List, [], ◌∷◌}
@@ -58,7 +58,7 @@ unfolding twice
 twice_turn ss i h = rw (left_turn ss i h)
 
 -- A rule in range: a location that is not a zone is a point.
-pub rule_in_range_law : (s : List ℕ) → in_range s ≡ true → record_kind s ≡ OfRule → rule_in_range s ≡ true
+pub rule_in_range_law : (s : List ℕ) → in_range s ≡ true → record_kind s ≡ (Some OfRule) → rule_in_range s ≡ true
 unfolding in_range
 rule_in_range_law s h k = rw k at (and_right (real (instance s)) (in_range_as (record_kind s) s) h)
 
