@@ -321,6 +321,11 @@ all_write : (t : Pair → Bool) (k i : ℕ) (b : List ℕ) (ps : Panel) →
 unfolding write
 all_write t k i b ps h a = if_holds (λ qs. all t qs ≡ true) (eqb i NONE) ps (store k i b ps) a (all_store t k i b h ps a)
 
+-- what holds of all holds of the one that is there
+pub if_any : {A : Type 0} (Q : A → Type 0) (o : Option A) → ((a : A) → Q a) → IfSome o Q
+if_any Q None h = tt
+if_any Q (Some a) h = h a
+
 pub all_write_of : {I S : Type 0} (t : Pair → Bool) (k : ℕ) (i : I → ℕ) (b : S → List ℕ) (o : Option (Write I S)) (ps : Panel) →
     IfSome o (λ w. (x : Pair) → is_at k (i w.instance) x.0 ≡ true → t x ≡ true → t (x.0, b w.state) ≡ true) → all t ps ≡ true →
     all t (write_of k i b o ps) ≡ true
