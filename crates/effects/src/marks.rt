@@ -5,7 +5,6 @@ ghost use Rattle.model.specs.Effects as m;
 ghost use Rattle.model.specs.Effects.{named, soft_passback, credential_marks, marks};
 
 use crate::point::locks_out;
-use conditions::words::choose_credential;
 use conditions::{is_passback_violated, is_relinquished, is_waiting};
 use model::numbers::{
     DENIED_AUTHENTICATION_FACTOR_ERROR, DENIED_LOCKOUT, DENIED_LOWER_OCCUPANCY_LIMIT, DENIED_OTHER,
@@ -16,17 +15,19 @@ use model::numbers::{
 use model::{CredentialId, Entry, Situation};
 
 // The credential that the answer to a factor read names.
+#[tactic(auto, unfolding(model::specs::Effects::named))]
 pub fn named_of(v: Situation, x: u16) -> CredentialId
     ensures { result ≡ named v x }
 {
-    choose_credential(
-        !is_waiting(v) & ((x == DENIED_LOCKOUT) | (x == DENIED_AUTHENTICATION_FACTOR_ERROR)),
-        CredentialId(NONE),
-        v.number,
-    )
+    if !is_waiting(v) & ((x == DENIED_LOCKOUT) | (x == DENIED_AUTHENTICATION_FACTOR_ERROR)) {
+        CredentialId(NONE)
+    } else {
+        v.number
+    }
 }
 
 // Passback was violated at a soft zone, and the checks went past it.
+#[tactic(auto, unfolding(model::specs::Effects::soft_passback))]
 pub fn soft_passback(v: Situation, e: Entry, x: u16) -> bool
     ensures { result ≡ soft_passback v e x }
 {
@@ -60,6 +61,7 @@ fn sum_of_four(trace: bool, passback_detected: bool, muster: bool, extended: boo
 }
 
 // The marks that ask nothing of a factor read: c is the credential that is named.
+#[tactic(auto, unfolding(model::specs::Effects::credential_marks))]
 pub fn credential_marks(v: Situation, e: Entry, x: u16, c: CredentialId) -> u8
     ensures value { result ≡ credential_marks v e x c }
     ensures upper_bound { result ≤ 46 }
@@ -84,6 +86,7 @@ fn sum_of_marks(factor_read: bool, others: u8, lockout: bool, relinquished: bool
 }
 
 // The marks of a factor read.
+#[tactic(auto, unfolding(model::specs::Effects::marks))]
 pub fn marks_of(v: Situation, e: Entry, x: u16) -> u8
     ensures { result ≡ marks v e x }
 {

@@ -4,7 +4,6 @@ ghost use Rattle.model.specs.Numbers.{not_refused};
 ghost use Rattle.model.specs.Step.{no_point, no_credential, no_count, no_answer, unchanged, refuse, count_outcome, adjusted, adjust_outcome, disable_after, disable_outcome, locks, service_after, service_outcome};
 
 use crate::words::next_tag;
-use conditions::words::{choose_byte, choose_credential, choose_long, choose_short};
 use model::numbers::{
     ARGUMENT_LOCK, FIRST_NEGATIVE, LARGEST_COUNT, LOCKOUT_OTHER, LOCKOUT_RELINQUISHED, MODULUS,
     NO_EVENT, NONE, NOT_REFUSED, REFUSED_COUNT,
@@ -17,6 +16,7 @@ use records::state::{fresh_credential, fresh_point};
 
 // ---- what an outcome leaves unwritten
 
+#[tactic(auto, unfolding(model::specs::Step::no_point))]
 fn no_point() -> PointWrite
     ensures { result ≡ no_point }
 {
@@ -27,6 +27,7 @@ fn no_point() -> PointWrite
     }
 }
 
+#[tactic(auto, unfolding(model::specs::Step::no_credential))]
 fn no_credential() -> CredentialWrite
     ensures { result ≡ no_credential }
 {
@@ -37,6 +38,7 @@ fn no_credential() -> CredentialWrite
     }
 }
 
+#[tactic(auto, unfolding(model::specs::Step::no_count))]
 fn no_count() -> CountWrite
     ensures { result ≡ no_count }
 {
@@ -61,6 +63,7 @@ fn no_answer(refusal: u8, tag: u32, count: u32) -> Answer
 }
 
 // An answer, and nothing written.
+#[tactic(auto, unfolding(model::specs::Step::unchanged))]
 pub fn unchanged(a: Answer) -> Outcome
     ensures { result ≡ unchanged a }
 {
@@ -74,6 +77,7 @@ pub fn unchanged(a: Answer) -> Outcome
 }
 
 // An answer that refuses.
+#[tactic(auto, unfolding(model::specs::Step::refuse))]
 pub fn refuse(n: u8) -> Outcome
     ensures { result ≡ refuse n }
 {
@@ -90,6 +94,7 @@ pub fn out_of_service_outcome(tag: u32, count: u32) -> Outcome
 // ---- operations 2 and 3: a zone's count
 
 // Operation 2 with its amount; operation 3 with what it comes to.
+#[tactic(auto, unfolding(model::specs::Step::unchanged, model::specs::Step::count_outcome))]
 pub fn count_outcome(e: Entry, n: u32) -> Outcome
     ensures { result ≡ count_outcome e n }
 {
@@ -104,6 +109,7 @@ pub fn count_outcome(e: Entry, n: u32) -> Outcome
 }
 
 // A count and a signed amount together, below zero becoming 0.
+#[tactic(auto, unfolding(model::specs::Step::adjusted, model::specs::Step::is_negative))]
 fn adjusted_by(count: u32, amount: u32) -> u64
     ensures { result ≡ adjusted count amount }
 {
@@ -119,6 +125,7 @@ fn adjusted_by(count: u32, amount: u32) -> u64
 }
 
 // Refusal 9 where the count has no room.
+#[tactic(auto, unfolding(model::specs::Step::adjust_outcome))]
 pub fn adjust_outcome(e: Entry, n: u32) -> Outcome
     ensures { result ≡ adjust_outcome e n }
 {
@@ -131,6 +138,7 @@ pub fn adjust_outcome(e: Entry, n: u32) -> Outcome
 
 // ---- operation 4: a credential's disable; its wrong tries begin again
 
+#[tactic(auto, unfolding(model::specs::Step::disable_after))]
 fn disable_after(held: CredentialState, disable: u8) -> CredentialState
     ensures { result ≡ disable_after held disable }
 {
@@ -140,6 +148,7 @@ fn disable_after(held: CredentialState, disable: u8) -> CredentialState
     c
 }
 
+#[tactic(auto, unfolding(model::specs::Step::unchanged, model::specs::Step::disable_outcome))]
 pub fn disable_outcome(e: Entry, c: CredentialState) -> Outcome
     ensures { result ≡ disable_outcome e c }
 {
@@ -159,30 +168,42 @@ pub fn disable_outcome(e: Entry, c: CredentialState) -> Outcome
 // ---- operation 5: a point in service or not
 
 // The entry locks the point; else it unlocks it.
+#[tactic(auto, unfolding(model::specs::Step::locks))]
 fn is_lock(e: Entry) -> bool
     ensures { result ≡ locks e }
 {
     e.argument == ARGUMENT_LOCK
 }
 
+#[tactic(auto, unfolding(model::specs::Step::service_after))]
 fn service_after(e: Entry, held: PointState) -> PointState
     ensures { result ≡ service_after e held }
 {
     let lock = is_lock(e);
-    let mut p = held;
-    p.tag = next_tag(held.tag);
-    p.failures = choose_byte(lock, held.failures, 0);
-    p.locked = lock;
-    p.lock_time = choose_long(lock, e.time, held.lock_time);
-    p.waiting_credential = choose_credential(lock, CredentialId(NONE), held.waiting_credential);
-    p
+    PointState {
+        tag: next_tag(held.tag),
+        failures: if lock { held.failures } else { 0 },
+        locked: lock,
+        lock_time: if lock { e.time } else { held.lock_time },
+        waiting_credential: if lock {
+            CredentialId(NONE)
+        } else {
+            held.waiting_credential
+        },
+        ..held
+    }
 }
 
+#[tactic(auto, unfolding(model::specs::Step::unchanged, model::specs::Step::service_outcome))]
 pub fn service_outcome(e: Entry, p: PointState, n: u32) -> Outcome
     ensures { result ≡ service_outcome e p n }
 {
     let mut answer = no_answer(NOT_REFUSED, next_tag(p.tag), n);
-    answer.event = choose_short(is_lock(e), LOCKOUT_OTHER, LOCKOUT_RELINQUISHED);
+    answer.event = if is_lock(e) {
+        LOCKOUT_OTHER
+    } else {
+        LOCKOUT_RELINQUISHED
+    };
     let point = PointWrite {
         written: true,
         instance: PointId(e.instance),

@@ -7,7 +7,7 @@ ghost use Rattle.conditions.specs.Room.{Room};
 use crate::credential::credential_after;
 use crate::marks::{marks_of, named_of};
 use crate::point::point_after;
-use crate::words::{count_less, next_tag};
+use crate::words::next_tag;
 use model::numbers::{GRANTED, NO_EVENT, NOT_REFUSED};
 use model::{
     Answer, CountWrite, CredentialId, CredentialWrite, Entry, Outcome, PointId, PointState,
@@ -15,6 +15,7 @@ use model::{
 };
 
 // The event is a counted passage of a zone.
+#[tactic(auto, unfolding(model::specs::Effects::counts))]
 pub fn counts_at(v: Situation, x: u16, counting: bool) -> bool
     ensures { result ≡ counts v x counting }
 {
@@ -30,6 +31,7 @@ fn gained(on: bool, count: u32) -> u32
 }
 
 // Zone_To's count after the event.
+#[tactic(auto, unfolding(model::specs::Effects::count_after))]
 fn count_after(v: Situation, x: u16) -> u32
     requires { Room v x }
     ensures { result ≡ count_after v x }
@@ -37,6 +39,7 @@ fn count_after(v: Situation, x: u16) -> u32
     gained(counts_at(v, x, v.zone_to.counting), v.count_to)
 }
 
+#[tactic(auto, unfolding(model::specs::Effects::answer_with))]
 fn answer_with(v: Situation, x: u16, marks: u8, named: CredentialId) -> Answer
     requires { Room v x }
     ensures { result ≡ answer_with v x marks named }
@@ -52,6 +55,7 @@ fn answer_with(v: Situation, x: u16, marks: u8, named: CredentialId) -> Answer
 }
 
 // What follows from an event: marks, the credential named and the point's state are those of the operation.
+#[tactic(auto, unfolding(model::specs::Effects::outcome_with))]
 pub fn outcome_with(
     v: Situation,
     e: Entry,
@@ -85,12 +89,13 @@ pub fn outcome_with(
         zone_from: CountWrite {
             written: counts_at(v, x, v.zone_from.counting),
             instance: from,
-            count: count_less(v.count_from),
+            count: v.count_from.saturating_sub(1),
         },
     }
 }
 
 // What a factor read does, at a point in service, that came to the event x.
+#[tactic(auto, unfolding(model::specs::Effects::outcome_of))]
 pub fn factor_outcome(v: Situation, e: Entry, x: u16) -> Outcome
     requires { Room v x }
     ensures { result ≡ outcome_of v e x }
