@@ -117,24 +117,18 @@ pub fn credential_after(v: Situation, e: Entry, x: u16) -> CredentialState
     ensures { result ≡ credential_after v e x }
 {
     let held = v.credential_state;
+    let granted = x == GRANTED;
+    let entering = granted & is_into_zone(v);
     CredentialState {
         uses: uses_after(v, x),
         days: days_after(v, e, x),
         last_use: e.time,
         zone: zone_after(v, x),
-        entered: if (x == GRANTED) & is_into_zone(v) {
-            e.time
-        } else {
-            held.entered
-        },
+        entered: if entering { e.time } else { held.entered },
         last_event: x,
         disable: disable_reached(v, x),
         wrong_tries: wrong_tries_after(v, x),
         last_point: PointId(e.instance),
-        last_grant: if x == GRANTED {
-            e.time
-        } else {
-            held.last_grant
-        },
+        last_grant: if granted { e.time } else { held.last_grant },
     }
 }

@@ -1,12 +1,13 @@
 // Operations 2 to 5, and the outcomes that write no state.
-ghost use Rattle.std.specs.Prelude.{◌≡◌};
+ghost use Rattle.std.specs.Prelude.{◌≡◌, ◌≤◌, SomeIff};
+ghost use Rattle.model.specs.Numbers as n;
 ghost use Rattle.model.specs.Numbers.{not_refused};
 ghost use Rattle.model.specs.Step.{no_point, no_credential, no_count, no_answer, unchanged, refuse, count_outcome, adjusted, adjust_outcome, disable_after, disable_outcome, locks, service_after, service_outcome};
 
 use crate::words::next_tag;
 use model::numbers::{
-    ARGUMENT_LOCK, FIRST_NEGATIVE, LARGEST_COUNT, LOCKOUT_OTHER, LOCKOUT_RELINQUISHED, MODULUS,
-    NO_EVENT, NONE, NOT_REFUSED, REFUSED_COUNT,
+    ARGUMENT_LOCK, FIRST_NEGATIVE, LOCKOUT_OTHER, LOCKOUT_RELINQUISHED, NO_EVENT, NONE,
+    NOT_REFUSED, REFUSED_COUNT,
 };
 use model::{
     Answer, CountWrite, CredentialId, CredentialState, CredentialWrite, Entry, Outcome, PointId,
@@ -55,10 +56,10 @@ fn no_answer(refusal: u8, tag: u32, count: u32) -> Answer
     Answer {
         event: NO_EVENT,
         marks: 0,
-        refusal: refusal,
-        tag: tag,
+        refusal,
+        tag,
         credential: CredentialId(NONE),
-        count: count,
+        count,
     }
 }
 
@@ -98,30 +99,26 @@ pub fn out_of_service_outcome(tag: u32, count: u32) -> Outcome
 pub fn count_outcome(e: Entry, n: u32) -> Outcome
     ensures { result ≡ count_outcome e n }
 {
-    let zone = CountWrite {
-        written: true,
-        instance: ZoneId(e.instance),
-        count: n,
-    };
-    let mut o = unchanged(no_answer(NOT_REFUSED, 0, n));
-    o.zone_to = zone;
-    o
+    Outcome {
+        zone_to: CountWrite {
+            written: true,
+            instance: ZoneId(e.instance),
+            count: n,
+        },
+        ..unchanged(no_answer(NOT_REFUSED, 0, n))
+    }
 }
 
-// A count and a signed amount together, below zero becoming 0.
+// A count and a signed amount together, below zero becoming 0; None where the count has no room.
 #[tactic(auto, unfolding(model::specs::Step::adjusted, model::specs::Step::is_negative))]
-fn adjusted_by(count: u32, amount: u32) -> u64
-    ensures { result ≡ adjusted count amount }
+fn adjusted_by(count: u32, amount: u32) -> Option<u32>
+    ensures { SomeIff result (adjusted count amount ≤ n.largest_count) (adjusted count amount) }
 {
-    let held = count as u64;
-    let change = amount as u64;
     if FIRST_NEGATIVE <= amount {
-        if held < MODULUS - change {
-            return 0;
-        }
-        return held - (MODULUS - change);
+        Some(count.saturating_sub(amount.wrapping_neg()))
+    } else {
+        count.checked_add(amount)
     }
-    held + change
 }
 
 // Refusal 9 where the count has no room.
@@ -129,11 +126,10 @@ fn adjusted_by(count: u32, amount: u32) -> u64
 pub fn adjust_outcome(e: Entry, n: u32) -> Outcome
     ensures { result ≡ adjust_outcome e n }
 {
-    let count = adjusted_by(n, e.amount);
-    if (LARGEST_COUNT as u64) < count {
-        return refuse(REFUSED_COUNT);
+    match adjusted_by(n, e.amount) {
+        None => refuse(REFUSED_COUNT),
+        Some(count) => count_outcome(e, count),
     }
-    count_outcome(e, count as u32)
 }
 
 // ---- operation 4: a credential's disable; its wrong tries begin again
@@ -142,10 +138,11 @@ pub fn adjust_outcome(e: Entry, n: u32) -> Outcome
 fn disable_after(held: CredentialState, disable: u8) -> CredentialState
     ensures { result ≡ disable_after held disable }
 {
-    let mut c = held;
-    c.disable = disable;
-    c.wrong_tries = 0;
-    c
+    CredentialState {
+        disable,
+        wrong_tries: 0,
+        ..held
+    }
 }
 
 #[tactic(auto, unfolding(model::specs::Step::unchanged, model::specs::Step::disable_outcome))]
@@ -153,16 +150,18 @@ pub fn disable_outcome(e: Entry, c: CredentialState) -> Outcome
     ensures { result ≡ disable_outcome e c }
 {
     let named = CredentialId(e.instance);
-    let mut answer = no_answer(NOT_REFUSED, 0, 0);
-    answer.credential = named;
-    let credential = CredentialWrite {
-        written: true,
-        instance: named,
-        state: disable_after(c, e.argument),
+    let answer = Answer {
+        credential: named,
+        ..no_answer(NOT_REFUSED, 0, 0)
     };
-    let mut o = unchanged(answer);
-    o.credential = credential;
-    o
+    Outcome {
+        credential: CredentialWrite {
+            written: true,
+            instance: named,
+            state: disable_after(c, e.argument),
+        },
+        ..unchanged(answer)
+    }
 }
 
 // ---- operation 5: a point in service or not
@@ -179,17 +178,18 @@ fn is_lock(e: Entry) -> bool
 fn service_after(e: Entry, held: PointState) -> PointState
     ensures { result ≡ service_after e held }
 {
-    let lock = is_lock(e);
+    let locking = is_lock(e);
+    let waiting_credential = if locking {
+        CredentialId(NONE)
+    } else {
+        held.waiting_credential
+    };
     PointState {
         tag: next_tag(held.tag),
-        failures: if lock { held.failures } else { 0 },
-        locked: lock,
-        lock_time: if lock { e.time } else { held.lock_time },
-        waiting_credential: if lock {
-            CredentialId(NONE)
-        } else {
-            held.waiting_credential
-        },
+        failures: if locking { held.failures } else { 0 },
+        locked: locking,
+        lock_time: if locking { e.time } else { held.lock_time },
+        waiting_credential,
         ..held
     }
 }
@@ -198,18 +198,21 @@ fn service_after(e: Entry, held: PointState) -> PointState
 pub fn service_outcome(e: Entry, p: PointState, n: u32) -> Outcome
     ensures { result ≡ service_outcome e p n }
 {
-    let mut answer = no_answer(NOT_REFUSED, next_tag(p.tag), n);
-    answer.event = if is_lock(e) {
-        LOCKOUT_OTHER
-    } else {
-        LOCKOUT_RELINQUISHED
+    let locking = is_lock(e);
+    let answer = Answer {
+        event: if locking {
+            LOCKOUT_OTHER
+        } else {
+            LOCKOUT_RELINQUISHED
+        },
+        ..no_answer(NOT_REFUSED, next_tag(p.tag), n)
     };
-    let point = PointWrite {
-        written: true,
-        instance: PointId(e.instance),
-        state: service_after(e, p),
-    };
-    let mut o = unchanged(answer);
-    o.point = point;
-    o
+    Outcome {
+        point: PointWrite {
+            written: true,
+            instance: PointId(e.instance),
+            state: service_after(e, p),
+        },
+        ..unchanged(answer)
+    }
 }

@@ -70,6 +70,7 @@ pub fn point_after(v: Situation, e: Entry, x: u16) -> PointState
     let held = v.point_state;
     let failing = is_failure(v, x);
     let locking = locks_out(v, e, x);
+    let first = failing & is_first_failure(v, e);
     PointState {
         tag: next_tag(held.tag),
         failures: count_kept(
@@ -81,18 +82,12 @@ pub fn point_after(v: Situation, e: Entry, x: u16) -> PointState
         ),
         locked: locking | is_still_locked(v, e),
         lock_time: if locking { e.time } else { held.lock_time },
-        first_failure: if failing & is_first_failure(v, e) {
-            e.time
-        } else {
-            held.first_failure
-        },
+        first_failure: if first { e.time } else { held.first_failure },
         // 161 leaves a wait, event 0 begins one, every other event ends it.
-        waiting_credential: if x == NO_EVENT {
-            v.number
-        } else if x == DENIED_LOCKOUT {
-            held.waiting_credential
-        } else {
-            CredentialId(NONE)
+        waiting_credential: match x {
+            NO_EVENT => v.number,
+            DENIED_LOCKOUT => held.waiting_credential,
+            _ => CredentialId(NONE),
         },
         waiting_since: if x == NO_EVENT {
             e.time
