@@ -2,43 +2,36 @@
 ghost use Rattle.std.specs.Prelude.{◌≡◌};
 ghost use Rattle.model.specs.Checks.{overdue, disabled_factor, first_of_two, authentication_of, authentication};
 
-use conditions::words::{choose_short, elapsed, short};
+use conditions::words::elapsed;
 use conditions::{is_still_locked, is_waiting};
 use model::{Authentication, Entry, Situation, numbers};
 
 // The second factor comes later than a set timeout.
+#[tactic(auto, unfolding(model::specs::Checks::overdue))]
 pub fn is_overdue(v: Situation, e: Entry) -> bool
     ensures { result ≡ overdue v e }
 {
     is_waiting(v)
         & (v.point.factor_timeout != 0)
-        & (short(v.point.factor_timeout) < elapsed(e.time, v.point_state.waiting_since))
+        & (u32::from(v.point.factor_timeout) < elapsed(e.time, v.point_state.waiting_since))
 }
 
 // The event of a disabled factor.
+#[tactic(auto, unfolding(model::specs::Checks::disabled_factor))]
 pub fn disabled_factor(d: u8) -> u16
     ensures { result ≡ disabled_factor d }
 {
-    choose_short(
-        d == numbers::FACTOR_DISABLED,
-        numbers::DENIED_AUTHENTICATION_FACTOR_DISABLED,
-        choose_short(
-            d == numbers::FACTOR_LOST,
-            numbers::DENIED_AUTHENTICATION_FACTOR_LOST,
-            choose_short(
-                d == numbers::FACTOR_STOLEN,
-                numbers::DENIED_AUTHENTICATION_FACTOR_STOLEN,
-                choose_short(
-                    d == numbers::FACTOR_DAMAGED,
-                    numbers::DENIED_AUTHENTICATION_FACTOR_DAMAGED,
-                    numbers::DENIED_AUTHENTICATION_FACTOR_DESTROYED,
-                ),
-            ),
-        ),
-    )
+    match d {
+        numbers::FACTOR_DISABLED => numbers::DENIED_AUTHENTICATION_FACTOR_DISABLED,
+        numbers::FACTOR_LOST => numbers::DENIED_AUTHENTICATION_FACTOR_LOST,
+        numbers::FACTOR_STOLEN => numbers::DENIED_AUTHENTICATION_FACTOR_STOLEN,
+        numbers::FACTOR_DAMAGED => numbers::DENIED_AUTHENTICATION_FACTOR_DAMAGED,
+        _ => numbers::DENIED_AUTHENTICATION_FACTOR_DESTROYED,
+    }
 }
 
 // The factor is the first of the two that the point wants.
+#[tactic(auto, unfolding(model::specs::Checks::first_of_two))]
 pub fn is_first_of_two(v: Situation) -> bool
     ensures { result ≡ first_of_two v }
 {
@@ -46,6 +39,7 @@ pub fn is_first_of_two(v: Situation) -> bool
 }
 
 // What steps 1 to 4 find.
+#[tactic(auto, unfolding(model::specs::Checks::authentication_of))]
 pub fn authentication_of(v: Situation, e: Entry) -> Authentication
     ensures { result ≡ authentication_of v e }
 {

@@ -2,10 +2,10 @@
 ghost use Rattle.std.specs.Prelude.{◌≡◌};
 ghost use Rattle.model.specs.Checks.{at_lower_limit, at_upper_limit, authorization_of, authorization, passage, permission};
 
-use conditions::words::{choose_short, has_reached};
 use conditions::{is_into_zone, is_passback_violated};
 use model::{Authorization, Entry, Situation, Verdict, numbers};
 
+#[tactic(auto, unfolding(model::specs::Checks::at_lower_limit))]
 pub fn is_at_lower_limit(v: Situation) -> bool
     ensures { result ≡ at_lower_limit v }
 {
@@ -16,6 +16,7 @@ pub fn is_at_lower_limit(v: Situation) -> bool
         & (v.count_from <= v.zone_from.lower_limit)
 }
 
+#[tactic(auto, unfolding(model::specs::Checks::at_upper_limit))]
 pub fn is_at_upper_limit(v: Situation) -> bool
     ensures { result ≡ at_upper_limit v }
 {
@@ -23,10 +24,11 @@ pub fn is_at_upper_limit(v: Situation) -> bool
         & v.point.upper_enforced
         & v.zone_to.counting
         & (v.zone_to.upper_limit != 0)
-        & has_reached(v.count_to, v.zone_to.upper_limit)
+        & (v.zone_to.upper_limit <= v.count_to)
 }
 
 // What steps 7 to 10 find, with what the rules say.
+#[tactic(auto, unfolding(model::specs::Checks::authorization_of))]
 pub fn authorization_of(v: Situation, rules: Verdict, e: Entry) -> Authorization
     ensures { result ≡ authorization_of v rules e }
 {
@@ -78,17 +80,19 @@ pub fn authorize(k: Authorization, next: u16) -> u16
 }
 
 // Step 11: a count that is full.
+#[tactic(auto, unfolding(model::specs::Checks::passage))]
 pub fn passage_of(v: Situation, next: u16) -> u16
     ensures { result ≡ passage v next }
 {
-    choose_short(
-        v.point.count_adjust & v.zone_to.counting & (v.count_to == numbers::LARGEST_COUNT),
-        numbers::DENIED_OTHER,
-        next,
-    )
+    if v.point.count_adjust & v.zone_to.counting & (v.count_to == numbers::LARGEST_COUNT) {
+        numbers::DENIED_OTHER
+    } else {
+        next
+    }
 }
 
 // Steps 6 to 11: a master exemption skips to step 11.
+#[tactic(auto, unfolding(model::specs::Checks::permission))]
 pub fn permit(v: Situation, rules: Verdict, e: Entry, next: u16) -> u16
     ensures { result ≡ permission v rules e next }
 {

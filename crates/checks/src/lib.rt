@@ -18,6 +18,7 @@ use validity::validity_event;
 pub const NEXT: u16 = 65535;
 
 // Steps 1 to 5: their event, or NEXT.
+#[tactic(auto, unfolding(crate::specs::Moves::before_permission))]
 pub fn before_permission(v: Situation, e: Entry) -> u16
     ensures { result ≡ before_permission v e }
 {
@@ -25,6 +26,7 @@ pub fn before_permission(v: Situation, e: Entry) -> u16
 }
 
 // Step 9 is reached: the rules are needed. `before` is what the steps up to 5 came to.
+#[tactic(auto, unfolding(crate::specs::Moves::asks_rules))]
 pub fn asks_rules(v: Situation, before: u16) -> bool
     ensures { result ≡ asks_rules v before }
 {
@@ -35,6 +37,7 @@ pub fn asks_rules(v: Situation, before: u16) -> bool
 }
 
 // What stands for the rules where they are not needed.
+#[tactic(auto, unfolding(crate::specs::Moves::no_verdict))]
 pub fn no_verdict() -> Verdict
     ensures { result ≡ no_verdict }
 {
@@ -46,6 +49,7 @@ pub fn no_verdict() -> Verdict
 }
 
 // The event `before`, or that of steps 6 to 12 where the steps before gave none.
+#[tactic(auto, unfolding(crate::specs::Moves::event_after))]
 pub fn event_after(v: Situation, rules: Verdict, e: Entry, before: u16) -> u16
     ensures { result ≡ event_after v rules e before }
 {

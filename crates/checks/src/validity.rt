@@ -4,19 +4,21 @@ ghost use Rattle.model.specs.Checks.{inactive, validity_of, validity};
 ghost use Rattle.checks.specs.Moves.{validity_event};
 
 use crate::NEXT;
-use conditions::words::{elapsed, of_days, wide};
+use conditions::words::elapsed;
 use model::{Entry, Situation, Validity, numbers};
 
 // Used before, and longer ago than the absentee days.
+#[tactic(auto, unfolding(model::specs::Checks::inactive))]
 pub fn is_inactive(last: u32, days: u16, time: u32) -> bool
     ensures { result ≡ inactive last days time }
 {
     (last != numbers::NEVER)
         & (days != numbers::UNLIMITED)
-        & (of_days(days) < wide(elapsed(time, last)))
+        & (u64::from(days) * u64::from(numbers::SECONDS_OF_DAY) < u64::from(elapsed(time, last)))
 }
 
 // What step 5 finds.
+#[tactic(auto, unfolding(model::specs::Checks::validity_of))]
 pub fn validity_of(v: Situation, e: Entry) -> Validity
     ensures { result ≡ validity_of v e }
 {
@@ -68,6 +70,7 @@ pub fn validate(k: Validity, next: u16) -> u16
 }
 
 // Step 5 by itself, or NEXT: what comes first for an operation that reads no factor.
+#[tactic(auto, unfolding(crate::specs::Moves::validity_event))]
 pub fn validity_event(v: Situation, e: Entry) -> u16
     ensures { result ≡ validity_event v e }
 {
