@@ -1,6 +1,6 @@
 // Steps 1 to 4: lockout, factor timeout, factor, second factor.
 ghost use Rattle.std.specs.Prelude.{◌≡◌};
-ghost use Rattle.model.specs.Checks.{overdue, disabled_factor, first_of_two, authentication_of, authentication};
+ghost use Rattle.model.specs.Checks.{overdue, disabled_factor, disabled_event, first_of_two, authentication_of, authentication};
 
 use conditions::words::elapsed;
 use conditions::{is_still_locked, is_waiting};
@@ -30,6 +30,16 @@ pub fn disabled_factor(d: u8) -> u16
     }
 }
 
+// The event of the factor that was read, where one matched and is disabled.
+fn disabled_event(factor_disable: Option<u8>) -> Option<u16>
+    ensures { result ≡ disabled_event factor_disable }
+{
+    match factor_disable {
+        None | Some(numbers::FACTOR_DISABLE_NONE) => None,
+        Some(d) => Some(disabled_factor(d)),
+    }
+}
+
 // The factor is the first of the two that the point wants.
 #[tactic(auto, unfolding(model::specs::Checks::first_of_two))]
 pub fn is_first_of_two(v: Situation) -> bool
@@ -47,38 +57,32 @@ pub fn authentication_of(v: Situation, e: Entry) -> Authentication
         locked: is_still_locked(v, e),
         overdue: is_overdue(v, e),
         error: e.argument == numbers::FORMAT_ERROR,
-        unmatched: !v.matched,
+        unmatched: v.factor_disable.is_none(),
         waiting: is_waiting(v),
-        disabled: v.factor_disable != 0,
-        disabled_event: disabled_factor(v.factor_disable),
+        disabled: disabled_event(v.factor_disable),
         first_of_two: is_first_of_two(v),
     }
 }
 
-// The event of what they find, or `next` where they give none.
-pub fn authenticate(k: Authentication, next: u16) -> u16
-    ensures { result ≡ authentication k next }
+// Their event, where one of them gives one.
+pub fn authenticate(k: Authentication) -> Option<u16>
+    ensures { result ≡ authentication k }
 {
     if k.locked {
-        return numbers::DENIED_LOCKOUT;
+        return Some(numbers::DENIED_LOCKOUT);
     }
     if k.overdue {
-        return numbers::DENIED_AUTHENTICATION_FACTOR_TIMEOUT;
+        return Some(numbers::DENIED_AUTHENTICATION_FACTOR_TIMEOUT);
     }
     if k.error {
-        return numbers::DENIED_AUTHENTICATION_FACTOR_ERROR;
+        return Some(numbers::DENIED_AUTHENTICATION_FACTOR_ERROR);
     }
     if k.unmatched {
         if k.waiting {
-            return numbers::DENIED_INCORRECT_AUTHENTICATION_FACTOR;
+            return Some(numbers::DENIED_INCORRECT_AUTHENTICATION_FACTOR);
         }
-        return numbers::DENIED_UNKNOWN_CREDENTIAL;
+        return Some(numbers::DENIED_UNKNOWN_CREDENTIAL);
     }
-    if k.disabled {
-        return k.disabled_event;
-    }
-    if k.first_of_two {
-        return numbers::NO_EVENT;
-    }
-    next
+    k.disabled
+        .or(k.first_of_two.then_some(numbers::NO_EVENT))
 }

@@ -45,60 +45,57 @@ pub fn authorization_of(v: Situation, rules: Verdict, e: Entry) -> Authorization
     }
 }
 
-// The event of what they find, or `next` where they give none.
-pub fn authorize(k: Authorization, next: u16) -> u16
-    ensures { result ≡ authorization k next }
+// Their event, where one of them gives one.
+pub fn authorize(k: Authorization) -> Option<u16>
+    ensures { result ≡ authorization k }
 {
     if k.deny_all {
-        return numbers::DENIED_DENY_ALL;
+        return Some(numbers::DENIED_DENY_ALL);
     }
     if k.threat {
-        return numbers::DENIED_THREAT_LEVEL;
+        return Some(numbers::DENIED_THREAT_LEVEL);
     }
     if k.negative {
-        return numbers::DENIED_NO_ACCESS_RIGHTS;
+        return Some(numbers::DENIED_NO_ACCESS_RIGHTS);
     }
     if k.no_positive {
         if k.positive_located {
-            return numbers::DENIED_OUT_OF_TIME_RANGE;
+            return Some(numbers::DENIED_OUT_OF_TIME_RANGE);
         }
         if k.into_zone {
-            return numbers::DENIED_ZONE_NO_ACCESS_RIGHTS;
+            return Some(numbers::DENIED_ZONE_NO_ACCESS_RIGHTS);
         }
-        return numbers::DENIED_POINT_NO_ACCESS_RIGHTS;
+        return Some(numbers::DENIED_POINT_NO_ACCESS_RIGHTS);
     }
     if k.hard_passback {
-        return numbers::DENIED_PASSBACK;
+        return Some(numbers::DENIED_PASSBACK);
     }
     if k.at_lower_limit {
-        return numbers::DENIED_LOWER_OCCUPANCY_LIMIT;
+        return Some(numbers::DENIED_LOWER_OCCUPANCY_LIMIT);
     }
-    if k.at_upper_limit {
-        return numbers::DENIED_UPPER_OCCUPANCY_LIMIT;
-    }
-    next
+    k.at_upper_limit
+        .then_some(numbers::DENIED_UPPER_OCCUPANCY_LIMIT)
 }
 
 // Step 11: a count that is full.
 #[tactic(auto, unfolding(model::specs::Checks::passage))]
-pub fn passage_of(v: Situation, next: u16) -> u16
-    ensures { result ≡ passage v next }
+pub fn passage_of(v: Situation) -> Option<u16>
+    ensures { result ≡ passage v }
 {
-    if v.point.count_adjust & v.zone_to.counting & (v.count_to == numbers::LARGEST_COUNT) {
-        numbers::DENIED_OTHER
-    } else {
-        next
-    }
+    let is_full = v.point.count_adjust
+        & v.zone_to.counting
+        & (v.count_to == numbers::LARGEST_COUNT);
+    is_full.then_some(numbers::DENIED_OTHER)
 }
 
 // Steps 6 to 11: a master exemption skips to step 11.
 #[tactic(auto, unfolding(model::specs::Checks::permission))]
-pub fn permit(v: Situation, rules: Verdict, e: Entry, next: u16) -> u16
-    ensures { result ≡ permission v rules e next }
+pub fn permit(v: Situation, rules: Verdict, e: Entry) -> Option<u16>
+    ensures { result ≡ permission v rules e }
 {
-    let last = passage_of(v, next);
+    let last = passage_of(v);
     if v.credential.master {
         return last;
     }
-    authorize(authorization_of(v, rules, e), last)
+    authorize(authorization_of(v, rules, e)).or(last)
 }

@@ -1,9 +1,7 @@
 // Step 5: the credential's dates, disable, uses and last use.
 ghost use Rattle.std.specs.Prelude.{◌≡◌};
 ghost use Rattle.model.specs.Checks.{inactive, validity_of, validity};
-ghost use Rattle.checks.specs.Moves.{validity_event};
 
-use crate::NEXT;
 use conditions::words::elapsed;
 use model::{Entry, Situation, Validity, numbers};
 
@@ -38,41 +36,38 @@ pub fn validity_of(v: Situation, e: Entry) -> Validity
     }
 }
 
-// The event of what it finds, or `next` where it gives none.
-pub fn validate(k: Validity, next: u16) -> u16
-    ensures { result ≡ validity k next }
+// Its event, where it gives one.
+pub fn validate(k: Validity) -> Option<u16>
+    ensures { result ≡ validity k }
 {
     if k.not_yet_active {
-        return numbers::DENIED_CREDENTIAL_NOT_YET_ACTIVE;
+        return Some(numbers::DENIED_CREDENTIAL_NOT_YET_ACTIVE);
     }
     if k.expired {
-        return numbers::DENIED_CREDENTIAL_EXPIRED;
+        return Some(numbers::DENIED_CREDENTIAL_EXPIRED);
     }
     if k.disabled {
-        return numbers::DENIED_CREDENTIAL_DISABLED;
+        return Some(numbers::DENIED_CREDENTIAL_DISABLED);
     }
     if k.manual_disable {
-        return numbers::DENIED_CREDENTIAL_MANUAL_DISABLE;
+        return Some(numbers::DENIED_CREDENTIAL_MANUAL_DISABLE);
     }
     if k.lockout {
-        return numbers::DENIED_CREDENTIAL_LOCKOUT;
+        return Some(numbers::DENIED_CREDENTIAL_LOCKOUT);
     }
     if k.no_days {
-        return numbers::DENIED_CREDENTIAL_MAX_DAYS;
+        return Some(numbers::DENIED_CREDENTIAL_MAX_DAYS);
     }
     if k.no_uses {
-        return numbers::DENIED_CREDENTIAL_MAX_USES;
+        return Some(numbers::DENIED_CREDENTIAL_MAX_USES);
     }
-    if k.inactive {
-        return numbers::DENIED_CREDENTIAL_INACTIVITY;
-    }
-    next
+    k.inactive
+        .then_some(numbers::DENIED_CREDENTIAL_INACTIVITY)
 }
 
-// Step 5 by itself, or NEXT: what comes first for an operation that reads no factor.
-#[tactic(auto, unfolding(crate::specs::Moves::validity_event))]
-pub fn validity_event(v: Situation, e: Entry) -> u16
-    ensures { result ≡ validity_event v e }
+// Step 5 by itself: what comes first for an operation that reads no factor.
+pub fn validity_event(v: Situation, e: Entry) -> Option<u16>
+    ensures { result ≡ validity (validity_of v e) }
 {
-    validate(validity_of(v, e), NEXT)
+    validate(validity_of(v, e))
 }

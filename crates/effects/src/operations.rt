@@ -2,7 +2,7 @@
 ghost use Rattle.std.specs.Prelude.{◌≡◌, ◌≤◌, SomeIff};
 ghost use Rattle.model.specs.Numbers as n;
 ghost use Rattle.model.specs.Numbers.{not_refused};
-ghost use Rattle.model.specs.Step.{no_point, no_credential, no_count, no_answer, unchanged, refuse, count_outcome, adjusted, adjust_outcome, disable_after, disable_outcome, locks, service_after, service_outcome};
+ghost use Rattle.model.specs.Step.{no_answer, unchanged, refuse, count_outcome, adjusted, adjust_outcome, disable_after, disable_outcome, locks, service_after, service_outcome};
 
 use crate::words::next_tag;
 use model::numbers::{
@@ -10,45 +10,10 @@ use model::numbers::{
     NOT_REFUSED, REFUSED_COUNT,
 };
 use model::{
-    Answer, CountWrite, CredentialId, CredentialState, CredentialWrite, Entry, Outcome, PointId,
-    PointState, PointWrite, ZoneId,
+    Answer, CredentialId, CredentialState, Entry, Outcome, PointId, PointState, Write, ZoneId,
 };
-use records::state::{fresh_credential, fresh_point};
 
-// ---- what an outcome leaves unwritten
-
-#[tactic(auto, unfolding(model::specs::Step::no_point))]
-fn no_point() -> PointWrite
-    ensures { result ≡ no_point }
-{
-    PointWrite {
-        written: false,
-        instance: PointId(NONE),
-        state: fresh_point(),
-    }
-}
-
-#[tactic(auto, unfolding(model::specs::Step::no_credential))]
-fn no_credential() -> CredentialWrite
-    ensures { result ≡ no_credential }
-{
-    CredentialWrite {
-        written: false,
-        instance: CredentialId(NONE),
-        state: fresh_credential(0, 0, 0),
-    }
-}
-
-#[tactic(auto, unfolding(model::specs::Step::no_count))]
-fn no_count() -> CountWrite
-    ensures { result ≡ no_count }
-{
-    CountWrite {
-        written: false,
-        instance: ZoneId(NONE),
-        count: 0,
-    }
-}
+// ---- outcomes that write no state
 
 fn no_answer(refusal: u8, tag: u32, count: u32) -> Answer
     ensures { result ≡ no_answer refusal tag count }
@@ -70,10 +35,10 @@ pub fn unchanged(a: Answer) -> Outcome
 {
     Outcome {
         answer: a,
-        point: no_point(),
-        credential: no_credential(),
-        zone_to: no_count(),
-        zone_from: no_count(),
+        point: None,
+        credential: None,
+        zone_to: None,
+        zone_from: None,
     }
 }
 
@@ -100,11 +65,10 @@ pub fn count_outcome(e: Entry, n: u32) -> Outcome
     ensures { result ≡ count_outcome e n }
 {
     Outcome {
-        zone_to: CountWrite {
-            written: true,
+        zone_to: Some(Write {
             instance: ZoneId(e.instance),
-            count: n,
-        },
+            state: n,
+        }),
         ..unchanged(no_answer(NOT_REFUSED, 0, n))
     }
 }
@@ -155,11 +119,10 @@ pub fn disable_outcome(e: Entry, c: CredentialState) -> Outcome
         ..no_answer(NOT_REFUSED, 0, 0)
     };
     Outcome {
-        credential: CredentialWrite {
-            written: true,
+        credential: Some(Write {
             instance: named,
             state: disable_after(c, e.argument),
-        },
+        }),
         ..unchanged(answer)
     }
 }
@@ -208,11 +171,10 @@ pub fn service_outcome(e: Entry, p: PointState, n: u32) -> Outcome
         ..no_answer(NOT_REFUSED, next_tag(p.tag), n)
     };
     Outcome {
-        point: PointWrite {
-            written: true,
+        point: Some(Write {
             instance: PointId(e.instance),
             state: service_after(e, p),
-        },
+        }),
         ..unchanged(answer)
     }
 }

@@ -8,10 +8,7 @@ use crate::marks::{marks_of, named_of};
 use crate::point::point_after;
 use crate::words::next_tag;
 use model::numbers::{GRANTED, NO_EVENT, NOT_REFUSED};
-use model::{
-    Answer, CountWrite, CredentialId, CredentialWrite, Entry, Outcome, PointId, PointState,
-    PointWrite, Situation,
-};
+use model::{Answer, CredentialId, Entry, Outcome, PointId, PointState, Situation, Write};
 
 // The event is a counted passage of a zone.
 #[tactic(auto, unfolding(model::specs::Effects::counts))]
@@ -64,26 +61,22 @@ pub fn outcome_with(
 {
     Outcome {
         answer: answer_with(v, x, marks, named),
-        point: PointWrite {
-            written: true,
+        point: Some(Write {
             instance: PointId(e.instance),
             state: point,
-        },
-        credential: CredentialWrite {
-            written: x != NO_EVENT,
+        }),
+        credential: (x != NO_EVENT).then(|| Write {
             instance: named,
             state: credential_after(v, e, x),
-        },
-        zone_to: CountWrite {
-            written: counts_at(v, x, v.zone_to.counting),
+        }),
+        zone_to: counts_at(v, x, v.zone_to.counting).then_some(Write {
             instance: v.point.zone_to,
-            count: count_after(v, x),
-        },
-        zone_from: CountWrite {
-            written: counts_at(v, x, v.zone_from.counting),
+            state: count_after(v, x),
+        }),
+        zone_from: counts_at(v, x, v.zone_from.counting).then_some(Write {
             instance: v.point.zone_from,
-            count: v.count_from.saturating_sub(1),
-        },
+            state: v.count_from.saturating_sub(1),
+        }),
     }
 }
 
