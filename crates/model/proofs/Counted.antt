@@ -131,7 +131,6 @@ module _ (z : ℕ) (not_none : eqb z NONE ≡ false) (ps : Panel) (t : Tally) (h
   Fits o u =
       pos (count_by z u (zone_count z ps)) ≡ standing (tallied_as o z (sites ps) e u.answer.event u.answer.refusal t)
 
-  -- Of an `if`: both of its outcomes.
   -- A refusal.
   fits_refuse : (r : ℕ) → eqb r n.not_refused ≡ false → (o : Option Operation) → Fits o (refuse r)
   unfolding Fits count_by refuse unchanged
