@@ -6,12 +6,11 @@ use mathlib.Core.Path.{◌≡◌, refl, sym, ◌∙◌, ap}
 use mathlib.Core.List.{List, [], ◌∷◌}
 use mathlib.Core.Bool.{Bool, true, false, not, ◌&&◌, ◌||◌, and-false, or-true, beq}
 use lib.Dec.{eqb, ltb}
-use borrow.Author.Tests.{not-true}
 use Rattle.model.specs.Words.{all, missing}
 use Rattle.model.specs.Numbers as n
 use Rattle.model.specs.Numbers.{NONE}
 use Rattle.model.specs.Site.{credential_id, kind, instance, point_of, credential_of, is_at, find_in}
-use Rattle.model.specs.State.{Pair, Panel, sites, find, store, write, count, point_state_of, credential_state_of, fresh_point}
+use Rattle.model.specs.State.{Pair, Panel, sites, find, store, write, count, point_state_of, credential_state_of}
 use Rattle.model.specs.Entry.{operation_of, object_kind, in_form}
 use Rattle.model.specs.Checks.{relinquished, still_locked, waiting, overdue, confirming, factor_for, credential_read, authentication_of, passback_violated, event_of}
 use Rattle.model.specs.Effects.{named, is_failure, failures_before, is_first_failure, failures_with, locks_out, point_after, counts, count_after, soft_passback, credential_marks, marks, answer_with, outcome_with, outcome_of}
