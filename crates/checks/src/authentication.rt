@@ -83,6 +83,5 @@ pub fn authenticate(k: Authentication) -> Option<u16>
         }
         return Some(numbers::DENIED_UNKNOWN_CREDENTIAL);
     }
-    k.disabled
-        .or(k.first_of_two.then_some(numbers::NO_EVENT))
+    k.disabled.or(k.first_of_two.then_some(numbers::NO_EVENT))
 }

@@ -61,8 +61,7 @@ pub fn validate(k: Validity) -> Option<u16>
     if k.no_uses {
         return Some(numbers::DENIED_CREDENTIAL_MAX_USES);
     }
-    k.inactive
-        .then_some(numbers::DENIED_CREDENTIAL_INACTIVITY)
+    k.inactive.then_some(numbers::DENIED_CREDENTIAL_INACTIVITY)
 }
 
 // Step 5 by itself: what comes first for an operation that reads no factor.
