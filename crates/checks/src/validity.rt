@@ -4,7 +4,7 @@ ghost use Rattle.model.specs.Checks.{inactive, validity_of, validity};
 ghost use Rattle.checks.specs.Moves.{validity_event};
 
 use crate::NEXT;
-use conditions::words::elapsed;
+use conditions::elapsed;
 use model::{Entry, Situation, Validity, numbers};
 
 // Used before, and longer ago than the absentee days.
