@@ -6,7 +6,7 @@ use crate::words::{count_kept, date_of};
 use conditions::is_into_zone;
 use model::numbers::{
     DENIED_AUTHENTICATION_FACTOR_TIMEOUT, DENIED_INCORRECT_AUTHENTICATION_FACTOR, DISABLE_LOCKOUT,
-    GRANTED, NEVER, NONE, UNLIMITED,
+    GRANTED, NEVER, UNLIMITED,
 };
 use model::{CredentialState, Entry, PointId, Situation, ZoneId};
 
@@ -19,8 +19,8 @@ pub fn zone_after(v: Situation, x: u16) -> ZoneId
         v.credential_state.zone
     } else if is_into_zone(v) {
         v.point.zone_to
-    } else if v.point.zone_from.0 != NONE {
-        ZoneId(NONE)
+    } else if v.point.zone_from != ZoneId::NONE {
+        ZoneId::NONE
     } else {
         v.credential_state.zone
     }

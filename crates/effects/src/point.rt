@@ -6,7 +6,7 @@ use crate::words::{count_kept, next_tag};
 use conditions::{elapsed, is_relinquished, is_still_locked};
 use model::numbers::{
     DENIED_AUTHENTICATION_FACTOR_ERROR, DENIED_LOCKOUT, DENIED_UNKNOWN_CREDENTIAL, GRANTED,
-    NO_EVENT, NONE,
+    NO_EVENT,
 };
 use model::{CredentialId, Entry, PointState, Situation};
 
@@ -86,7 +86,7 @@ pub fn point_after(v: Situation, e: Entry, x: u16) -> PointState
         waiting_credential: match x {
             NO_EVENT => v.number,
             DENIED_LOCKOUT => held.waiting_credential,
-            _ => CredentialId(NONE),
+            _ => CredentialId::NONE,
         },
         waiting_since: if x == NO_EVENT {
             e.time
