@@ -46,7 +46,7 @@ fn factor_for<'a>(site: &IndexedSite<'a>, waiting: CredentialId, e: Entry) -> Op
     ensures { unwrap_or (option_copied result) [] ≡ factor_for waiting e (records site.now) }
 {
     let presented = Presented {
-        confirms: (waiting.0 != NONE).then_some(waiting),
+        confirms: (waiting != CredentialId::NONE).then_some(waiting),
         format: e.argument,
         value: e.value,
     };
@@ -57,10 +57,13 @@ fn factor_for<'a>(site: &IndexedSite<'a>, waiting: CredentialId, e: Entry) -> Op
 fn credential_read(waiting: CredentialId, factor: Option<&Record>) -> CredentialId
     ensures { result ≡ credential_read waiting (unwrap_or (option_copied factor) []) }
 {
-    if waiting.0 != NONE {
+    if waiting != CredentialId::NONE {
         return waiting;
     }
-    CredentialId(factor.map_or(NONE, |part| records::site::instance_of(part)))
+    match factor {
+        Some(part) => CredentialId(records::site::instance_of(part)),
+        None => CredentialId::NONE,
+    }
 }
 
 // The situation of a factor read at the point that stands at a place.

@@ -4,8 +4,8 @@ ghost use Rattle.model.specs.Site.{records};
 ghost use Rattle.model.specs.State.{zone_well, below_most, point_well, credential_well, record_well, well_formed};
 
 use index::IndexedSite;
-use model::numbers::{LARGEST_DISABLE, NONE, RECORD_SIZE};
-use model::{PointState, RecordKind, layout};
+use model::numbers::{LARGEST_DISABLE, RECORD_SIZE};
+use model::{CredentialId, PointState, RecordKind, layout};
 use records::site::{most_failures_of, most_wrong_tries_of, record_kind_of};
 use records::state::{
     credential_disable_of, credential_zone_of, last_point_of, locked_byte_of, wrong_tries_of,
@@ -42,7 +42,7 @@ fn point_well(site: &IndexedSite, s: &Record, t: &Record) -> bool
         )
         & is_clear(t, layout::POINT_STATE_SPARE, layout::POINT_STATE_SPARE_SIZE)
         & none_or_exists(site, p.waiting_credential)
-        & (!p.locked | (p.waiting_credential.0 == NONE))
+        & (!p.locked | (p.waiting_credential == CredentialId::NONE))
         & is_below_most(p.failures, most_failures_of(s))
 }
 
