@@ -1,7 +1,7 @@
 // Numbers of 1, 2, 4 and 8 bytes, big-endian, at an offset of a lent part; groups of one size of a slice; comparison of two runs of bytes.
 #![tactic(auto)]
 
-ghost use Rattle.std.specs.Prelude.{◌≡◌, ℕ, [], ◌+◌, ◌/◌, ◌≤◌, ◌<◌, length, get_or};
+ghost use Rattle.std.specs.Prelude.{◌≡◌, ℕ, [], ◌++◌, ◌+◌, ◌/◌, ◌≤◌, ◌<◌, length, drop, get_or};
 ghost use Rattle.octets.specs.Octets.{field, put, groups, with_part, same};
 
 // A number of a fixed width, in big-endian bytes.
@@ -104,15 +104,25 @@ pub fn group<const N: usize>(bytes: &[u8], i: usize) -> &[u8; N]
     &groups(bytes)[i]
 }
 
+// Writes the first of them.
+fn put_first<const N: usize>(bytes: &mut [u8], part: &[u8; N])
+    requires { N ≤ length bytes.old }
+    ensures { bytes.new ≡ part.now ++ drop N bytes.old }
+{
+    let Some(first) = bytes.first_chunk_mut() else {
+        unreachable!()
+    };
+    *first = *part;
+}
+
 // Writes the i-th of them.
+#[tactic(auto, unfolding(crate::specs::Octets::with_part))]
 pub fn put_group<const N: usize>(bytes: &mut [u8], i: usize, part: &[u8; N])
     requires size { 0 < N }
     requires in_range { i < length bytes.old / N }
     ensures { bytes.new ≡ with_part N i part.now bytes.old }
 {
-    let start = i * N;
-    let end = start + N;
-    bytes[start..end].copy_from_slice(part);
+    put_first(&mut bytes[i * N..], part);
 }
 
 // Whether two runs of bytes are the same.
