@@ -11,7 +11,7 @@ use lib.ListN.{length, take, drop, get_or, length-map, get_or-map}
 use lib.Seq.{length-take-le, take-take, take-nil}
 use borrow.Author.Tests.{eqb-true, eq-eqb, ltb-false, le-ltb, not-false}
 use Rattle.octets.specs.Octets.{groups}
-use Rattle.octets.proofs.Groups.{length_groups}
+use Rattle.octets.proofs.GroupLaws.{length_groups}
 use Rattle.model.specs.State.{Panel, panel, state_of, well_formed}
 use Rattle.model.specs.Entry.{entry_of, entries, answer_bytes}
 use Rattle.model.specs.Step.{apply, entry_outcome, after, answers}

@@ -10,7 +10,7 @@ use lib.ListN.{length, take, drop, get_or, length-append, length-map, length-dro
 use lib.Seq.{take_at, drop_at, length-take-le}
 use borrow.Author.Tests.{eqb-true, eq-eqb}
 use Rattle.octets.specs.Octets.{groups}
-use Rattle.octets.proofs.Groups.{length_groups, joined_back}
+use Rattle.octets.proofs.GroupLaws.{length_groups, joined_back}
 use Rattle.model.specs.Words.{keep, all, missing}
 use Rattle.model.specs.Site.{record_kind, find_in, records}
 use Rattle.model.specs.State.{Pair, Panel, paired, panel, sites, state_of, find_by, fresh_point, fresh_credential, fresh_record_as, fresh_record, fresh}

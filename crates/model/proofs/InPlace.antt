@@ -8,7 +8,7 @@ use lib.Dec.{lit≤, eqb}
 use lib.ListN.{length, take, drop, length-take, length-drop}
 use Rattle.octets.specs.Octets.{field}
 use Rattle.octets.proofs.Laws.{field_part}
-use Rattle.octets.proofs.Groups.{length_group}
+use Rattle.octets.proofs.GroupLaws.{length_group}
 use Rattle.octets.proofs.InPlace.{bytes_in_place, field_in_place}
 use Rattle.model.specs.Words.{bit}
 use Rattle.model.specs.Site.{zone_id, point_id, credential_id, rights_id, flags, flag, reference, zone_of, point_of, credential_of}

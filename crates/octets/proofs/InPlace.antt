@@ -8,7 +8,7 @@ use lib.ListN.{take, drop, get_or}
 use lib.Seq.{drop-drop, take-nil, take-take}
 use Rattle.octets.specs.Octets.{field, groups}
 use Rattle.octets.proofs.Laws.{field_part}
-use Rattle.octets.proofs.Groups.{group_at}
+use Rattle.octets.proofs.GroupLaws.{group_at}
 
 -- What follows the first m of m + n elements.
 drop_take : (m n : ℕ) (s : List ℕ) → drop m (take (m + n) s) ≡ take n (drop m s)

@@ -13,6 +13,7 @@ use lib.ListN.{length, take, drop, get_or, set, length-append, length-take, leng
 use lib.Pow.{pow-add}
 use lib.Seq.{length-take-le, drop-drop, take_at, take-take, take-append-le, drop-append-add, set_split, drop-cons, get_or_at, get_or-take, get_or-drop}
 use borrow.Author.Tests.{eq-eqb, eqb-true}
+use lib.Pointwise.{pointwise}
 use Rattle.octets.specs.Octets.{field, digits, put, same}
 
 -- A power of 256 is not 0.
@@ -230,13 +231,10 @@ else_false false h = refl
 pub same_differs : (a b : List ℕ) → (a ≡ b → ⊥) → same a b ≡ false
 same_differs a b h = else_false (same a b) (λ t. h (equal a b t))
 
--- A turn of a comparison: the elements at i, and then what is left.
-pub same_step : (a b : List ℕ) (i : ℕ) → i < length a → i < length b
-    → same (drop i a) (drop i b) ≡ eqb (get_or a i 0) (get_or b i 0) && same (drop (suc i) a) (drop (suc i) b)
+-- The library's equality of lists of numbers is the test.
+pub pointwise_same : (a b : List ℕ) → pointwise eqb a b ≡ same a b
 unfolding same
-same_step a b i h k = rw (drop-cons a i 0 h, drop-cons b i 0 k)
-
--- The end of a comparison: nothing is left of either.
-pub same_end : (a b : List ℕ) (i : ℕ) → length a ≤ i → length b ≤ i → same (drop i a) (drop i b) ≡ true
-unfolding same
-same_end a b i h k = rw (drop_of_length-le a h, drop_of_length-le b k)
+pointwise_same [] [] = refl
+pointwise_same [] (y ∷ ys) = refl
+pointwise_same (x ∷ xs) [] = refl
+pointwise_same (x ∷ xs) (y ∷ ys) = ap (λ (t : Bool). eqb x y && t) (pointwise_same xs ys)

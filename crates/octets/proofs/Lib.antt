@@ -1,4 +1,4 @@
 pub mod Laws
-pub mod Groups
+pub mod GroupLaws
 pub mod Written
 pub mod InPlace

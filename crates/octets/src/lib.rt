@@ -1,90 +1,123 @@
-// Numbers of 1, 2, 4 and 8 bytes, big-endian, at an offset of a lent part; 32-byte groups of a slice; comparison of two runs of bytes.
+// Numbers of 1, 2, 4 and 8 bytes, big-endian, at an offset of a lent part; groups of one size of a slice; comparison of two runs of bytes.
 #![tactic(auto)]
 
-ghost use Rattle.std.specs.Prelude.{◌≡◌, [], ◌+◌, ◌/◌, ◌≤◌, ◌<◌, length, get_or};
-ghost use Rattle.octets.specs.Octets.{field, put, groups, same};
+ghost use Rattle.std.specs.Prelude.{◌≡◌, ℕ, [], ◌+◌, ◌/◌, ◌≤◌, ◌<◌, length, get_or};
+ghost use Rattle.octets.specs.Octets.{field, put, groups, with_part, same};
 
-pub fn get_u8(part: &[u8], at: usize) -> u8
-    requires { at + 1 ≤ length part.now }
-    ensures { result ≡ field at 1 part.now }
-{
-    part[at]
+// A number of a fixed width, in big-endian bytes.
+pub trait Number: Copy {
+    ghost width: { ℕ };
+
+    ghost number: { Self → ℕ };
+
+    fn get(part: &[u8], at: usize) -> Self
+        requires { at + width ≤ length part.now }
+        ensures { number result ≡ field at width part.now };
+
+    fn put(self, part: &mut [u8], at: usize)
+        requires { at + width ≤ length part.old }
+        ensures { part.new ≡ put at width (number self) part.old };
 }
 
-pub fn get_u16(part: &[u8], at: usize) -> u16
-    requires { at + 2 ≤ length part.now }
-    ensures { result ≡ field at 2 part.now }
-{
-    (get_u8(part, at) as u16) * 256 + (get_u8(part, at + 1) as u16)
+impl Number for u8 {
+    ghost width = { 1 };
+
+    ghost number = { λ n. n };
+
+    fn get(part: &[u8], at: usize) -> u8 {
+        part[at]
+    }
+
+    fn put(self, part: &mut [u8], at: usize) {
+        part[at] = self;
+    }
 }
 
-pub fn get_u32(part: &[u8], at: usize) -> u32
-    requires { at + 4 ≤ length part.now }
-    ensures { result ≡ field at 4 part.now }
-{
-    (get_u16(part, at) as u32) * 65536 + (get_u16(part, at + 2) as u32)
+impl Number for u16 {
+    ghost width = { 2 };
+
+    ghost number = { λ n. n };
+
+    fn get(part: &[u8], at: usize) -> u16 {
+        u16::from(u8::get(part, at)) * 256 + u16::from(u8::get(part, at + 1))
+    }
+
+    fn put(self, part: &mut [u8], at: usize) {
+        ((self / 256) as u8).put(part, at);
+        ((self % 256) as u8).put(part, at + 1);
+    }
 }
 
-pub fn get_u64(part: &[u8], at: usize) -> u64
-    requires { at + 8 ≤ length part.now }
-    ensures { result ≡ field at 8 part.now }
-{
-    (get_u32(part, at) as u64) * 4294967296 + (get_u32(part, at + 4) as u64)
+impl Number for u32 {
+    ghost width = { 4 };
+
+    ghost number = { λ n. n };
+
+    fn get(part: &[u8], at: usize) -> u32 {
+        u32::from(u16::get(part, at)) * 65536 + u32::from(u16::get(part, at + 2))
+    }
+
+    fn put(self, part: &mut [u8], at: usize) {
+        ((self / 65536) as u16).put(part, at);
+        ((self % 65536) as u16).put(part, at + 2);
+    }
 }
 
-pub fn put_u8(part: &mut [u8], at: usize, value: u8)
-    requires { at + 1 ≤ length part.old }
-    ensures { part.new ≡ put at 1 value part.old }
-{
-    part[at] = value;
+impl Number for u64 {
+    ghost width = { 8 };
+
+    ghost number = { λ n. n };
+
+    fn get(part: &[u8], at: usize) -> u64 {
+        u64::from(u32::get(part, at)) * 4294967296 + u64::from(u32::get(part, at + 4))
+    }
+
+    fn put(self, part: &mut [u8], at: usize) {
+        ((self / 4294967296) as u32).put(part, at);
+        ((self % 4294967296) as u32).put(part, at + 4);
+    }
 }
 
-pub fn put_u16(part: &mut [u8], at: usize, value: u16)
-    requires { at + 2 ≤ length part.old }
-    ensures { part.new ≡ put at 2 value part.old }
+// The whole groups of N bytes that the slice has.
+pub fn groups<const N: usize>(bytes: &[u8]) -> &[[u8; N]]
+    requires { 0 < N }
+    ensures { result.now ≡ groups N (length bytes.now / N) bytes.now }
 {
-    put_u8(part, at, (value / 256) as u8);
-    put_u8(part, at + 1, (value % 256) as u8);
+    bytes.as_chunks::<N>().0
 }
 
-pub fn put_u32(part: &mut [u8], at: usize, value: u32)
-    requires { at + 4 ≤ length part.old }
-    ensures { part.new ≡ put at 4 value part.old }
+// How many they are.
+pub fn group_count<const N: usize>(bytes: &[u8]) -> usize
+    requires { 0 < N }
+    ensures { result ≡ length bytes.now / N }
 {
-    put_u16(part, at, (value / 65536) as u16);
-    put_u16(part, at + 2, (value % 65536) as u16);
+    bytes.len() / N
 }
 
-// How many whole groups of 32 bytes the slice has.
-pub fn group_count(bytes: &[u8]) -> usize
-    ensures { result ≡ length bytes.now / 32 }
+// The i-th of them, as a part of the slice.
+#[tactic(auto, using(crate::proofs::GroupLaws::length_groups))]
+pub fn group<const N: usize>(bytes: &[u8], i: usize) -> &[u8; N]
+    requires size { 0 < N }
+    requires in_range { i < length bytes.now / N }
+    ensures { result.now ≡ get_or (groups N (length bytes.now / N) bytes.now) i [] }
 {
-    bytes.len() / 32
+    &groups(bytes)[i]
 }
 
-// The i-th group of 32 bytes, as a part of the slice.
-pub fn group(bytes: &[u8], i: usize) -> &[u8]
-    requires { i < length bytes.now / 32 }
-    ensures { (result.now ≡ get_or (groups 32 (length bytes.now / 32) bytes.now) i []) × (length result.now ≡ 32) }
+// Writes the i-th of them.
+pub fn put_group<const N: usize>(bytes: &mut [u8], i: usize, part: &[u8; N])
+    requires size { 0 < N }
+    requires in_range { i < length bytes.old / N }
+    ensures { bytes.new ≡ with_part N i part.now bytes.old }
 {
-    let start = i * 32;
-    let end = start + 32;
-    &bytes[start..end]
+    let start = i * N;
+    let end = start + N;
+    bytes[start..end].copy_from_slice(part);
 }
 
 // Whether two runs of bytes are the same.
 pub fn same_bytes(a: &[u8], b: &[u8]) -> bool
     ensures { result ≡ same a.now b.now }
 {
-    if a.len() != b.len() {
-        return false;
-    }
-    let mut i = 0;
-    while i < a.len() {
-        if a[i] != b[i] {
-            return false;
-        }
-        i += 1;
-    }
-    true
+    a == b
 }

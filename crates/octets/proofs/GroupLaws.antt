@@ -1,11 +1,12 @@
 -- The laws of groups of bytes, each for every size.
 use mathlib.Core.Path.{◌≡◌, refl, sym, ap, ◌∙◌}
-use mathlib.Core.List.{List, [], ◌++◌, flatten}
+use mathlib.Core.List.{List, [], ◌∷◌, ◌++◌, flatten}
 use Prim.Native.Nat.{ℕ, zero, suc, ◌+◌, ◌-◌, ◌*◌, ◌≤◌, ◌<◌}
 use native.Mathlib.Nat.{zero-mul, suc-mul, add_comm, add-sub_cancel_left, mul-le-mul_right, not-suc-le-zero, le_of_suc-le-suc}
 use native.Mathlib.Omega.{arith}
 use lib.ListN.{length, take, drop, get_or, length-take, length-drop}
 use lib.Seq.{drop-drop, take-add, take_all}
+use Rattle.std.specs.Simd.{first_chunks}
 use Rattle.octets.specs.Octets.{groups, with_part}
 
 -- There are as many groups as are asked for.
@@ -13,6 +14,12 @@ pub length_groups : (size n : ℕ) (s : List ℕ) → length (groups size n s) �
 unfolding groups
 length_groups size zero s = refl
 length_groups size (suc n) s = ap suc (length_groups size n (drop size s))
+
+-- The library's chunks of a list are its groups.
+pub chunks_groups : (size n : ℕ) (s : List ℕ) → first_chunks size n s ≡ groups size n s
+unfolding groups
+chunks_groups size zero s = refl
+chunks_groups size (suc n) s = ap (λ (gs : List (List ℕ)). take size s ∷ gs) (chunks_groups size n (drop size s))
 
 -- The i-th group is the part of the list from i * size on.
 pub group_at : (size n i : ℕ) (s : List ℕ) → i < n → get_or (groups size n s) i [] ≡ take size (drop (i * size) s)

@@ -1,9 +1,9 @@
 -- A number of two bytes is put one byte at a time.
 use native.Mathlib.Omega.{arith}
 use Rattle.octets.proofs.Laws.{put_join}
-use Rattle.octets.proofs.put_u16.Goals as goal
+use Rattle.octets.proofs.U16Number.put.Goals as goal
 
 pub returns : goal.returns
 returns c =
     let a = c.args in
-    rw (c.put_u8-2.ensures, c.put_u8.ensures) (put_join 0 1 a.at a.value a.part.now (omega arith))
+    rw (c.put-2.ensures, c.put.ensures) (put_join 0 1 a.at a.self a.part.now (omega arith))
