@@ -1,5 +1,6 @@
 -- The border of a part: the state records that an entry writes are all on the side of the entry's object.
 use Rattle.std.specs.Prelude.{if◌then◌else◌, Option, Some, None}
+use Rattle.std.specs.Option.{IfSome}
 use Prim.Native.Nat.{ℕ}
 use mathlib.Core.Path.{◌≡◌, refl, sym, ◌∙◌, ap}
 use mathlib.Core.List.{List, [], ◌∷◌}
@@ -14,13 +15,17 @@ use Rattle.model.specs.State.{Pair, Panel, sites, find, store, write, count, poi
 use Rattle.model.specs.Entry.{operation_of, object_kind, in_form}
 use Rattle.model.specs.Checks.{relinquished, still_locked, waiting, overdue, confirming, factor_for, credential_read, authentication_of, passback_violated, event_of}
 use Rattle.model.specs.Effects.{named, is_failure, failures_before, is_first_failure, failures_with, locks_out, point_after, counts, count_after, soft_passback, credential_marks, marks, answer_with, outcome_with, outcome_of}
-use Rattle.model.specs.Step.{no_point, no_credential, no_count, unchanged, refuse, no_answer, zone_to, factor_read, number_read, situation_of, rules_at, factor_outcome, count_outcome, adjusted, adjust_outcome, disable_outcome, locks, service_after, service_outcome, worked_outcome, outcome_as, entry_outcome, apply}
+use Rattle.model.specs.Step.{write_of, unchanged, refuse, no_answer, zone_to, factor_read, number_read, situation_of, rules_at, factor_outcome, count_outcome, adjusted, adjust_outcome, disable_outcome, locks, service_after, service_outcome, worked_outcome, outcome_as, entry_outcome, apply}
 use Rattle.model.specs.Part.{Part, member, holds, belongs, on_side, point_inside, inside, identifies, identified, identified_inside, read_inside_as}
+use Rattle.model.specs.declared.ZoneId.{ZoneId}
 use Rattle.model.specs.declared.CredentialId.{CredentialId}
+use Rattle.model.specs.declared.PointState.{PointState}
+use Rattle.model.specs.declared.CredentialState.{CredentialState}
 use Rattle.model.specs.declared.Entry.{Entry}
 use Rattle.model.specs.declared.Answer.{Answer}
 use Rattle.model.specs.declared.Situation.{Situation}
 use Rattle.model.specs.declared.Verdict.{Verdict}
+use Rattle.model.specs.declared.Write.{Write}
 use Rattle.model.specs.declared.Outcome.{Outcome}
 use Rattle.model.specs.declared.Operation.{Operation}
 use Rattle.model.specs.declared.Operation.TheVariants.{Factor, SetCount, AdjustCount, SetDisable, SetService}
@@ -152,32 +157,34 @@ module _ (P : Part) where
   part_apply o ps = only_apply (holds P) (member P) holds_at o ps
 
   -- A write outside the part leaves the part's records as they are.
-  write_out : (on : Bool) (k i : ℕ) (b : List ℕ) (ps : Panel) → on_side P k i false ≡ true →
-      only (holds P) (write on k i b ps) ≡ only (holds P) ps
+  write_out : (k i : ℕ) (b : List ℕ) (ps : Panel) → on_side P k i false ≡ true → only (holds P) (write k i b ps) ≡ only (holds P) ps
   unfolding write
-  write_out on k i b ps h = go (on && not (eqb i NONE)) refl
+  write_out k i b ps h = go (eqb i NONE) refl
     where
-      go : (c : Bool) → on && not (eqb i NONE) ≡ c → only (holds P) (if c then store k i b ps else ps) ≡ only (holds P) ps
-      go true e =
-          only_store_out (holds P) k i b
-          (λ s a. holds_at k i s a ∙ side_is k i false h (not-true (eqb i NONE) (and_right on (not (eqb i NONE)) e))) ps
-      go false e = refl
+      go : (c : Bool) → eqb i NONE ≡ c → only (holds P) (if c then ps else store k i b ps) ≡ only (holds P) ps
+      go true e = refl
+      go false e = only_store_out (holds P) k i b (λ s a. holds_at k i s a ∙ side_is k i false h e) ps
+
+  write_of_out : {I S : Type 0} (k : ℕ) (i : I → ℕ) (b : S → List ℕ) (o : Option (Write I S)) (ps : Panel) →
+      IfSome o (λ w. on_side P k (i w.instance) false ≡ true) → only (holds P) (write_of k i b o ps) ≡ only (holds P) ps
+  write_of_out k i b None ps h = refl
+  write_of_out k i b (Some w) ps h = write_out k (i w.instance) (b w.state) ps h
 
   -- All that an outcome writes is on one side, and the point that it writes waits for NONE or a credential on the point's side.
   pub record Sided (o : Outcome) (side : Bool) : Type 0 where
-    pub point : on_side P n.access_point o.point.instance.0 side ≡ true
-    pub credential : on_side P n.access_credential o.credential.instance.0 side ≡ true
-    pub zone_to : on_side P n.access_zone o.zone_to.instance.0 side ≡ true
-    pub zone_from : on_side P n.access_zone o.zone_from.instance.0 side ≡ true
+    pub point : IfSome o.point (λ w. on_side P n.access_point w.instance.0 side ≡ true)
+    pub credential : IfSome o.credential (λ w. on_side P n.access_credential w.instance.0 side ≡ true)
+    pub zone_to : IfSome o.zone_to (λ w. on_side P n.access_zone w.instance.0 side ≡ true)
+    pub zone_from : IfSome o.zone_from (λ w. on_side P n.access_zone w.instance.0 side ≡ true)
     pub waits :
-        on_side P n.access_credential o.point.state.waiting_credential.0 (member P n.access_point o.point.instance.0) ≡ true
+        IfSome o.point (λ w. on_side P n.access_credential w.state.waiting_credential.0 (member P n.access_point w.instance.0) ≡ true)
 
   -- An outcome outside the part leaves the part's records as they are.
   pub apply_out : (o : Outcome) (ps : Panel) → Sided o false → only (holds P) (apply o ps) ≡ only (holds P) ps
   unfolding apply
   apply_out o ps h =
-      write_out _ n.access_point _ _ _ h.point ∙ write_out _ n.access_credential _ _ _ h.credential
-      ∙ write_out _ n.access_zone _ _ _ h.zone_to ∙ write_out _ n.access_zone _ _ _ h.zone_from
+      write_of_out n.access_point _ _ o.point _ h.point ∙ write_of_out n.access_credential _ _ o.credential _ h.credential
+      ∙ write_of_out n.access_zone _ _ o.zone_to _ h.zone_to ∙ write_of_out n.access_zone _ _ o.zone_from ps h.zone_from
 
   -- ── what holds of every record while a journal is worked through
 
@@ -214,8 +221,8 @@ module _ (P : Part) where
 
   -- An outcome that writes nothing is on both sides.
   sided_unchanged : (a : Answer) (side : Bool) → Sided (unchanged a) side
-  unfolding on_side unchanged no_point no_credential no_count fresh_point
-  sided_unchanged a side = record { point = refl; credential = refl; zone_to = refl; zone_from = refl; waits = refl }
+  unfolding unchanged
+  sided_unchanged a side = record { point = tt; credential = tt; zone_to = tt; zone_from = tt; waits = tt }
 
   -- The credential of a factor read, waited for or identified, is on the point's side.
   pub number_side : (c : CredentialId) (e : Entry) (ss : List (List ℕ)) →
@@ -243,6 +250,32 @@ module _ (P : Part) where
       go true none = matched (identified ss e) (g none)
       go false none = h
 
+  -- The outcome of a factor read that names the credential c and leaves the point p: c, the one that p waits for and the point's zones are on the
+  -- point's side.
+  sided_with : (v : Situation) (e : Entry) (x m : ℕ) (c : CredentialId) (p : PointState) →
+      on_side P n.access_credential c.0 (member P n.access_point e.instance) ≡ true →
+      on_side P n.access_credential p.waiting_credential.0 (member P n.access_point e.instance) ≡ true →
+      on_side P n.access_zone v.point.zone_to.0 (member P n.access_point e.instance) ≡ true →
+      on_side P n.access_zone v.point.zone_from.0 (member P n.access_point e.instance) ≡ true →
+      Sided (outcome_with v e x m c p) (member P n.access_point e.instance)
+  unfolding outcome_with
+  sided_with v e x m c p names waits to from =
+      record {
+        point = own_side n.access_point e.instance;
+        credential =
+            if_holds (λ (o : Option (Write CredentialId CredentialState)). IfSome o (λ w. on_side P n.access_credential w.instance.0 side ≡ true))
+            (eqb x n.no_event) None (Some _) tt names;
+        zone_to = if_holds zone_here (counts v x v.zone_to.counting) (Some _) None to tt;
+        zone_from = if_holds zone_here (counts v x v.zone_from.counting) (Some _) None from tt;
+        waits = waits;
+      }
+    where
+      side : Bool
+      side = member P n.access_point e.instance
+
+      zone_here : Option (Write ZoneId ℕ) → Type 0
+      zone_here o = IfSome o (λ w. on_side P n.access_zone w.instance.0 side ≡ true)
+
   -- The outcome of a factor read, in any situation whose references are on the point's side.
   sided_outcome : (v : Situation) (e : Entry) (x : ℕ) →
       on_side P n.access_credential v.number.0 (member P n.access_point e.instance) ≡ true →
@@ -250,19 +283,14 @@ module _ (P : Part) where
       on_side P n.access_zone v.point.zone_to.0 (member P n.access_point e.instance) ≡ true →
       on_side P n.access_zone v.point.zone_from.0 (member P n.access_point e.instance) ≡ true →
       Sided (outcome_of v e x) (member P n.access_point e.instance)
-  unfolding outcome_of outcome_with named point_after
+  unfolding outcome_of named point_after
   sided_outcome v e x number waits to from =
-      record {
-        point = own_side n.access_point e.instance;
-        credential =
-            if_holds credential_here (not (waiting v) && (eqb x n.denied_lockout || eqb x n.denied_authentication_factor_error))
-            (credential_id NONE) v.number (none_side n.access_credential _) number;
-        zone_to = to;
-        zone_from = from;
-        waits =
-            if_holds credential_here (eqb x n.no_event) v.number _ number
-            (if_holds credential_here (eqb x n.denied_lockout) v.point_state.waiting_credential (credential_id NONE) waits (none_side n.access_credential _));
-      }
+      sided_with v e x _ _ _
+      (if_holds credential_here (not (waiting v) && (eqb x n.denied_lockout || eqb x n.denied_authentication_factor_error)) (credential_id NONE) v.number
+      (none_side n.access_credential _) number)
+      (if_holds credential_here (eqb x n.no_event) v.number _ number
+      (if_holds credential_here (eqb x n.denied_lockout) v.point_state.waiting_credential (credential_id NONE) waits (none_side n.access_credential _)))
+      to from
     where
       credential_here : CredentialId → Type 0
       credential_here c = on_side P n.access_credential c.0 (member P n.access_point e.instance) ≡ true
@@ -273,15 +301,9 @@ module _ (P : Part) where
       on_side P n.access_zone v.point.zone_to.0 (member P n.access_point e.instance) ≡ true →
       on_side P n.access_zone v.point.zone_from.0 (member P n.access_point e.instance) ≡ true →
       Sided (outcome_of v e (if locked then n.denied_lockout else n.denied_authentication_factor_error)) (member P n.access_point e.instance)
-  unfolding outcome_of outcome_with point_after
+  unfolding outcome_of point_after
   sided_stopped v e locked w waits to from =
-      record {
-        point = own_side n.access_point e.instance;
-        credential = rw (stopped_named v locked w) (none_side n.access_credential _);
-        zone_to = to;
-        zone_from = from;
-        waits = waits_for locked;
-      }
+      sided_with v e _ _ _ _ (rw (stopped_named v locked w) (none_side n.access_credential _)) (waits_for locked) to from
     where
       waits_for : (locked : Bool) →
           on_side P n.access_credential
@@ -334,29 +356,28 @@ module _ (P : Part) where
 
   -- The outcome of a count that is set.
   sided_count : (e : Entry) (counted : ℕ) → Sided (count_outcome e counted) (member P n.access_zone e.instance)
-  unfolding count_outcome on_side no_point no_credential no_count fresh_point
-  sided_count e counted =
-      record { point = refl; credential = refl; zone_to = own_side n.access_zone e.instance; zone_from = refl; waits = refl }
+  unfolding count_outcome
+  sided_count e counted = record { point = tt; credential = tt; zone_to = own_side n.access_zone e.instance; zone_from = tt; waits = tt }
 
   -- The outcome of every operation at its object x.
   sided_worked : (o : Option Operation) (ps : Panel) (e : Entry) (x : Pair) → is_at (object_kind o) e.instance x.0 ≡ true →
       pair_inside x ≡ true → read_inside_as o P ps e x ≡ true → Sided (worked_outcome o ps e x) (member P (object_kind o) e.instance)
-  unfolding refuse adjust_outcome disable_outcome service_outcome service_after on_side no_point no_credential no_count fresh_point
+  unfolding refuse adjust_outcome disable_outcome service_outcome service_after
   sided_worked (Some Factor) ps e x a h g = sided_factor ps e x (point_inside_law e.instance x a h) g
   sided_worked (Some SetCount) ps e x a h g = sided_count e e.amount
   sided_worked (Some AdjustCount) ps e x a h g =
       if_holds (λ o. Sided o (member P n.access_zone e.instance)) (ltb n.largest_count (adjusted (count x.1) e.amount)) (refuse n.refused_count) _ (sided_unchanged _ _)
       (sided_count e _)
   sided_worked (Some SetDisable) ps e x a h g =
-      record { point = refl; credential = own_side n.access_credential e.instance; zone_to = refl; zone_from = refl; waits = refl }
+      record { point = tt; credential = own_side n.access_credential e.instance; zone_to = tt; zone_from = tt; waits = tt }
   sided_worked (Some SetService) ps e x a h g =
       record {
         point = own_side n.access_point e.instance;
-        credential = refl;
-        zone_to = refl;
-        zone_from = refl;
+        credential = tt;
+        zone_to = tt;
+        zone_from = tt;
         waits =
-            if_holds (λ (c : CredentialId). on_side P n.access_credential c.0 (member P n.access_point e.instance) ≡ true) (locks e) (credential_id NONE) _ refl
+            if_holds (λ (c : CredentialId). on_side P n.access_credential c.0 (member P n.access_point e.instance) ≡ true) (locks e) (credential_id NONE) _ (none_side n.access_credential _)
             (point_inside_law e.instance x a h).waits;
       }
   sided_worked None ps e x a h g = sided_unchanged _ _

@@ -13,19 +13,20 @@ use Rattle.model.specs.Numbers as n
 use Rattle.model.specs.Numbers.{NONE}
 use Rattle.model.specs.Site.{records, reference, zone_of, point_of, is_at, find_in}
 use Rattle.model.specs.Accept.{in_range, point_in_range}
-use Rattle.model.specs.State.{Pair, Panel, sites, find, seek, write, count, zone_bytes, fresh_record}
+use Rattle.model.specs.State.{Pair, Panel, sites, find, seek, count, zone_bytes, fresh_record}
 use Rattle.model.specs.Entry.{entry_of, operation_of, object_kind, answer_bytes}
 use Rattle.model.specs.Checks.{event_of}
 use Rattle.model.specs.Effects.{counts, count_after, answer_with, outcome_with, outcome_of}
-use Rattle.model.specs.Step.{no_count, unchanged, refuse, zone_to, zone_from, situation_of, rules_at, factor_outcome, count_outcome, is_negative, adjusted, adjust_outcome, disable_outcome, service_outcome, worked_outcome, entry_outcome, apply, panels, after, answers}
+use Rattle.model.specs.Step.{unchanged, refuse, zone_to, zone_from, situation_of, rules_at, factor_outcome, count_outcome, is_negative, adjusted, adjust_outcome, disable_outcome, service_outcome, worked_outcome, entry_outcome, write_of, apply, panels, after, answers}
 use Rattle.model.specs.Tally.{Tally, move, set_to, signed, passed, tallied_as, tallied, tally, tally_of, standing, count_of}
 use Rattle.model.specs.Demands.{Count}
+use Rattle.model.specs.declared.ZoneId.{ZoneId}
 use Rattle.model.specs.declared.Entry.{Entry}
 use Rattle.model.specs.declared.Answer.{Answer}
 use Rattle.model.specs.declared.Outcome.{Outcome}
 use Rattle.model.specs.declared.Operation.{Operation}
 use Rattle.model.specs.declared.Operation.TheVariants.{Factor, SetCount, AdjustCount, SetDisable, SetService}
-use Rattle.model.proofs.Laws.{if_holds, kind_at, There, find_in_sites, found, sites_write, sites_apply, find_write_other, find_write_same, all_found_in, found_in}
+use Rattle.model.proofs.Laws.{if_holds, kind_at, There, find_in_sites, found, sites_write_of, sites_apply, find_write_of_other, left_by, left_if, read_write_of, all_found_in, found_in}
 use Rattle.model.proofs.Outcomes.{entry_holds}
 use Rattle.model.proofs.RoundTrip.{count_back, event_back, refusal_back}
 use Rattle.model.proofs.Flat.{fresh_panel, sites_fresh, find_fresh}
@@ -47,35 +48,21 @@ zone_count z ps = count (find n.access_zone z ps).1
 
 -- The count that an outcome leaves a zone of the count c.
 unfoldable count_by : ℕ → Outcome → ℕ → ℕ
-count_by z o c =
-    if o.zone_to.written && eqb o.zone_to.instance.0 z then o.zone_to.count else
-    if o.zone_from.written && eqb o.zone_from.instance.0 z then o.zone_from.count else
-    c
-
--- A write to a record of another kind.
-count_other : (z : ℕ) (on : Bool) (k i : ℕ) (b : List ℕ) (ps : Panel) → eqb k n.access_zone ≡ false →
-    zone_count z (write on k i b ps) ≡ zone_count z ps
-unfolding zone_count
-count_other z on k i b ps d = ap (λ (x : Pair). count x.1) (find_write_other n.access_zone z on k i b ps d)
+count_by z o c = left_by (λ (i : ZoneId). i.0) z o.zone_to (left_by (λ (i : ZoneId). i.0) z o.zone_from c)
 
 module _ (z : ℕ) (not_none : eqb z NONE ≡ false) where
-  -- A write to a zone's record.
-  count_zone : (on : Bool) (i m : ℕ) (ps : Panel) → There n.access_zone z ps →
-      zone_count z (write on n.access_zone i (zone_bytes m) ps) ≡ (if on && eqb i z then m else zone_count z ps)
-  unfolding zone_count
-  count_zone on i m ps g = rw (find_write_same n.access_zone z not_none on i (zone_bytes m) ps g) (go (on && eqb i z))
-    where
-      go : (c : Bool) → count (if c then zone_bytes m else (find n.access_zone z ps).1) ≡ (if c then m else count (find n.access_zone z ps).1)
-      go true = count_back m
-      go false = refl
-
   -- The four writes of an outcome.
   count_apply : (o : Outcome) (ps : Panel) → There n.access_zone z ps → zone_count z (apply o ps) ≡ count_by z o (zone_count z ps)
-  unfolding apply count_by
+  unfolding apply count_by zone_count
   count_apply o ps g =
-      let from = o.zone_from in
-      let f : There n.access_zone z (write from.written n.access_zone from.instance.0 (zone_bytes from.count) ps) = rw sites_write g in
-      rw (count_other, count_other, count_zone, count_zone)
+      let left = write_of n.access_zone (λ (i : ZoneId). i.0) zone_bytes o.zone_from ps in
+      let there : There n.access_zone z left = rw sites_write_of g in
+      rw (
+        find_write_of_other n.access_zone z n.access_point _ _ o.point _ refl,
+        find_write_of_other n.access_zone z n.access_credential _ _ o.credential _ refl,
+        read_write_of n.access_zone (λ (i : ZoneId). i.0) zone_bytes count count_back z not_none o.zone_to left there,
+        read_write_of n.access_zone (λ (i : ZoneId). i.0) zone_bytes count count_back z not_none o.zone_from ps g,
+      )
 
 -- ── what an accepted site says of its points
 
@@ -147,7 +134,7 @@ module _ (z : ℕ) (not_none : eqb z NONE ≡ false) (ps : Panel) (t : Tally) (h
   -- Of an `if`: both of its outcomes.
   -- A refusal.
   fits_refuse : (r : ℕ) → eqb r n.not_refused ≡ false → (o : Option Operation) → Fits o (refuse r)
-  unfolding Fits count_by refuse unchanged no_count
+  unfolding Fits count_by refuse unchanged
   fits_refuse r d (Some Factor) = h
   fits_refuse r d (Some SetCount) = rw d h
   fits_refuse r d (Some AdjustCount) = rw d h
@@ -157,7 +144,7 @@ module _ (z : ℕ) (not_none : eqb z NONE ≡ false) (ps : Panel) (t : Tally) (h
 
   -- Operation 2.
   fits_set : Fits (Some SetCount) (count_outcome e e.amount)
-  unfolding Fits count_by count_outcome no_count
+  unfolding Fits count_by count_outcome
   fits_set = go (eqb e.instance z)
     where
       go : (c : Bool) → pos (if c then e.amount else zone_count z ps) ≡ standing (if c then set_to e.amount else t)
@@ -166,7 +153,7 @@ module _ (z : ℕ) (not_none : eqb z NONE ≡ false) (ps : Panel) (t : Tally) (h
 
   -- Operation 3: m is the count of the zone that the entry names.
   fits_adjust : (m : ℕ) → (eqb e.instance z ≡ true → m ≡ zone_count z ps) → Fits (Some AdjustCount) (adjust_outcome e m)
-  unfolding Fits count_by adjust_outcome count_outcome no_count
+  unfolding Fits count_by adjust_outcome count_outcome
   fits_adjust m s =
       if_holds (Fits (Some AdjustCount)) (ltb n.largest_count (adjusted m e.amount)) (refuse n.refused_count) (count_outcome e (adjusted m e.amount))
       (fits_refuse n.refused_count refl (Some AdjustCount)) (go (eqb e.instance z) refl)
@@ -188,14 +175,14 @@ module _ (z : ℕ) (not_none : eqb z NONE ≡ false) (ps : Panel) (t : Tally) (h
       eqb (point_of p.0).zone_to.0 z && eqb (point_of p.0).zone_from.0 z ≡ false → Fits (Some Factor) (outcome_of (situation_of ps e p) e x)
   unfolding Fits count_by outcome_of outcome_with answer_with count_after counts passed situation_of zone_to zone_from
   fits_outcome p x f d =
-      rw (f, passage_if)
+      rw (f, left_if, left_if, passage_if)
       (standing_passed (zone_count z ps) t h (eqb x n.granted && (point_of p.0).count_adjust) (eqb (point_of p.0).zone_to.0 z)
       (eqb (point_of p.0).zone_from.0 z) _ _ _ _ _ (same_zone (point_of p.0).zone_to.0) (same_zone (point_of p.0).zone_from.0) d)
 
   -- The operation at its object's records x.
   fits_worked : all in_range (sites ps) ≡ true → (o : Option Operation) (x : Pair) → find (object_kind o) e.instance ps ≡ x →
       is_at (object_kind o) e.instance x.0 ≡ true → missing x.0 ≡ false → Fits o (worked_outcome o ps e x)
-  unfolding Fits count_by find factor_outcome disable_outcome service_outcome unchanged refuse no_count zone_count
+  unfolding Fits count_by find factor_outcome disable_outcome service_outcome unchanged refuse zone_count
   fits_worked a (Some Factor) x f p g =
       let s : find_in (is_point e.instance) (sites ps) ≡ x.0 = rw (← find_in_sites (is_point e.instance) ps, f) in
       let r : in_range x.0 ≡ true = rw s at (all_found_in in_range (is_point e.instance) (sites ps) a (rw s g)) in

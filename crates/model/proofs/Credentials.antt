@@ -1,5 +1,5 @@
 -- A credential's state in a panel: after a write, in the situation of a factor read, when fresh, at the end of a list.
-use Rattle.std.specs.Prelude.{if◌then◌else◌}
+use Rattle.std.specs.Prelude.{if◌then◌else◌, Some, None}
 use Prim.Native.Nat.{ℕ}
 use mathlib.Core.Path.{◌≡◌, refl, sym}
 use mathlib.Core.List.{List, map}
@@ -10,19 +10,21 @@ use Rattle.model.specs.Words.{missing}
 use Rattle.model.specs.Numbers as n
 use Rattle.model.specs.Numbers.{NONE}
 use Rattle.model.specs.Site.{credential_id, records, credential_of, is_at, find_in}
-use Rattle.model.specs.State.{Pair, Panel, sites, find, seek, write, zone_bytes, credential_state_of, credential_bytes, fresh_credential, fresh_record}
+use Rattle.model.specs.State.{Pair, Panel, sites, find, seek, zone_bytes, credential_state_of, credential_bytes, fresh_credential, fresh_record}
 use Rattle.model.specs.Entry.{entry_of}
 use Rattle.model.specs.Checks.{waiting}
-use Rattle.model.specs.Effects.{named}
-use Rattle.model.specs.Step.{credential_at, situation_of, apply, after}
+use Rattle.model.specs.Effects.{named, credential_after, outcome_with, outcome_of}
+use Rattle.model.specs.Step.{credential_at, situation_of, write_of, apply, after}
 use Rattle.model.specs.Lists.{History}
 use Rattle.model.specs.DayPasses.{state_left}
+use Rattle.model.specs.declared.ZoneId.{ZoneId}
+use Rattle.model.specs.declared.CredentialId.{CredentialId}
 use Rattle.model.specs.declared.Situation.{Situation}
 use Rattle.model.specs.declared.Entry.{Entry}
 use Rattle.model.specs.declared.Answer.{Answer}
 use Rattle.model.specs.declared.Outcome.{Outcome}
 use Rattle.model.specs.declared.CredentialState.{CredentialState}
-use Rattle.model.proofs.Laws.{kind_at, There, find_in_sites, sites_write, find_write_other, find_write_same, found_in}
+use Rattle.model.proofs.Laws.{kind_at, There, find_in_sites, sites_write_of, find_write_of_other, left_by, read_write_of, found_in}
 use Rattle.model.proofs.RoundTrip.{credential_back}
 use Rattle.model.proofs.Flat.{fresh_panel, find_fresh}
 use Rattle.model.proofs.Runs.{all_entries, ended_panel}
@@ -38,31 +40,36 @@ held c ps = credential_state_of (find n.access_credential c ps).1
 
 -- The state that an outcome leaves a credential of the state s.
 unfoldable pub held_by : ℕ → Outcome → CredentialState → CredentialState
-held_by c o s = if o.credential.written && eqb o.credential.instance.0 c then o.credential.state else s
+held_by c o s = left_by (λ (i : CredentialId). i.0) c o.credential s
 
 -- The four writes of an outcome.
 pub held_apply : (c : ℕ) → eqb c NONE ≡ false → (o : Outcome) (ps : Panel) → There n.access_credential c ps → held c (apply o ps) ≡ held_by c o (held c ps)
 unfolding apply held held_by
 held_apply c not_none o ps g =
-    let to = o.zone_to in
-    let from = o.zone_from in
-    let left = write from.written n.access_zone from.instance.0 (zone_bytes from.count) ps in
-    let moved = write to.written n.access_zone to.instance.0 (zone_bytes to.count) left in
-    let there : There n.access_credential c moved = rw (sites_write, sites_write) g in
+    let left = write_of n.access_zone (λ (i : ZoneId). i.0) zone_bytes o.zone_from ps in
+    let moved = write_of n.access_zone (λ (i : ZoneId). i.0) zone_bytes o.zone_to left in
+    let there : There n.access_credential c moved = rw (sites_write_of, sites_write_of) g in
     rw (
-      find_write_other n.access_credential c o.point.written n.access_point _ _ _ refl,
-      find_write_same n.access_credential c not_none o.credential.written _ _ moved there,
-      find_write_other n.access_credential c to.written n.access_zone _ _ left refl,
-      find_write_other n.access_credential c from.written n.access_zone _ _ ps refl,
+      find_write_of_other n.access_credential c n.access_point _ _ o.point _ refl,
+      read_write_of n.access_credential (λ (i : CredentialId). i.0) credential_bytes credential_state_of credential_back c not_none o.credential moved
+          there,
+      find_write_of_other n.access_credential c n.access_zone _ _ o.zone_to left refl,
+      find_write_of_other n.access_credential c n.access_zone _ _ o.zone_from ps refl,
     )
-    (go (o.credential.written && eqb o.credential.instance.0 c))
-  where
-    go : (b : Bool) → credential_state_of (if b then credential_bytes o.credential.state else (find n.access_credential c ps).1)
-        ≡ (if b then o.credential.state else credential_state_of (find n.access_credential c ps).1)
-    go true = credential_back o.credential.state
-    go false = refl
 
 -- ── a factor read
+
+-- The state that it leaves: it writes the credential that its answer names, unless the event is 0.
+pub held_read : (c : ℕ) (v : Situation) (e : Entry) (x : ℕ) (s : CredentialState) →
+    held_by c (outcome_of v e x) s ≡ (if not (eqb x n.no_event) && eqb (named v x).0 c then credential_after v e x else s)
+unfolding held_by outcome_of outcome_with
+held_read c v e x s = go (eqb x n.no_event)
+  where
+    go : (b : Bool) →
+        left_by (λ (i : CredentialId). i.0) c (if b then None else Some (record { instance = named v x; state = credential_after v e x })) s
+        ≡ (if not b && eqb (named v x).0 c then credential_after v e x else s)
+    go true = refl
+    go false = refl
 
 -- The answer grants the credential c.
 abbrev pub grants : ℕ → Answer → Bool

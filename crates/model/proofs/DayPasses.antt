@@ -15,7 +15,7 @@ use Rattle.model.specs.State.{Pair, Panel, find, credential_state_of, fresh_with
 use Rattle.model.specs.Entry.{entry_of, object_kind, arguments_fit, in_form}
 use Rattle.model.specs.Checks.{event_of}
 use Rattle.model.specs.Effects.{named, date, loses_day, days_after, credential_after, answer_with, outcome_with, outcome_of}
-use Rattle.model.specs.Step.{no_credential, unchanged, refuse, situation_of, rules_at, factor_outcome, count_outcome, adjusted, adjust_outcome, disable_after, disable_outcome, locks, service_outcome, worked_outcome, entry_outcome, apply, panels, after, answers}
+use Rattle.model.specs.Step.{unchanged, refuse, situation_of, rules_at, factor_outcome, count_outcome, adjusted, adjust_outcome, disable_after, disable_outcome, locks, service_outcome, worked_outcome, entry_outcome, apply, panels, after, answers}
 use Rattle.model.specs.Lists.{Worked, History}
 use Rattle.model.specs.DayPasses.{is_grant_of, grant_times, times_granted, dates_granted, days_in_site, last_of, taken_since, days_taken, never_fall, different}
 use Rattle.model.specs.Demands.{LastGrant, DaysTaken, DaysOfAdmission}
@@ -31,7 +31,7 @@ use Rattle.model.proofs.RoundTrip.{event_back, credential_named_back}
 use Rattle.model.proofs.Flat.{fresh_panel}
 use Rattle.model.proofs.Runs.{object_found, object_real, object_there, worked_at, all_entries, worked_list}
 use Rattle.model.proofs.Granted.{granted_days}
-use Rattle.model.proofs.Credentials.{held, held_by, held_apply, grants, named_number, state_read, held_fresh, state_left_law}
+use Rattle.model.proofs.Credentials.{held, held_by, held_apply, held_read, grants, named_number, state_read, held_fresh, state_left_law}
 
 -- ── what an outcome leaves of days and last grant
 
@@ -46,9 +46,9 @@ record Leaves (c : ℕ) (e : Entry) (s : CredentialState) (o : Outcome) : Type 0
   known : grants c o.answer ≡ true → (eqb e.time NEVER ≡ false) × (eqb s.days 0 ≡ false)
 
 -- An outcome that writes no credential, and does not grant.
-leaves_none : (c : ℕ) (e : Entry) (s : CredentialState) (o : Outcome) → o.credential ≡ no_credential → eqb o.answer.event n.granted ≡ false →
+leaves_none : (c : ℕ) (e : Entry) (s : CredentialState) (o : Outcome) → o.credential ≡ None → eqb o.answer.event n.granted ≡ false →
     Leaves c e s o
-unfolding held_by no_credential
+unfolding held_by
 leaves_none c e s o k h = record { days = rw (k, h); last = rw (k, h); known = λ g. absurd (false≢true (rw h at g)) }
 
 leaves_refuse : (c : ℕ) (e : Entry) (s : CredentialState) (r : ℕ) → Leaves c e s (refuse r)
@@ -60,25 +60,25 @@ module _ (c : ℕ) (not_none : eqb c NONE ≡ false) (e : Entry) where
   leaves_event : (v : Situation) (s : CredentialState) (x : ℕ) → (eqb (named v x).0 c ≡ true → v.credential_state ≡ s) →
       (eqb (named v x).0 c ≡ true → eqb x n.granted ≡ true → (eqb e.time NEVER ≡ false) × (eqb s.days 0 ≡ false)) →
       Leaves c e s (outcome_of v e x)
-  unfolding held_by outcome_of outcome_with answer_with
+  unfolding outcome_of outcome_with answer_with
   leaves_event v s x same_state known = go (eqb (named v x).0 c) refl (eqb x n.granted) refl (eqb x n.no_event) refl
     where
       go : (b : Bool) → eqb (named v x).0 c ≡ b → (d : Bool) → eqb x n.granted ≡ d → (f : Bool) → eqb x n.no_event ≡ f → Leaves c e s (outcome_of v e x)
-      go false p d q f r = record { days = simp (p, and-false); last = simp (p, and-false); known = λ g. absurd (false≢true (simp (p, and-false) at g)) }
+      go false p d q f r = record { days = simp (held_read, p, and-false); last = simp (held_read, p, and-false); known = λ g. absurd (false≢true (simp (p, and-false) at g)) }
       go true p true q true r = absurd (let y = eqb-true x 1 q in let z = eqb-true x 0 r in omega arith)
       go true p true q false r =
           let k = same_state p in
           record {
-            days = unfold credential_after days_after loses_day takes_day in rw (p, q, r, k);
-            last = unfold credential_after in rw (p, q, r);
+            days = unfold credential_after days_after loses_day takes_day in rw (held_read, p, q, r, k);
+            last = unfold credential_after in rw (held_read, p, q, r);
             known = λ g. known p q;
           }
-      go true p false q true r = record { days = rw (p, q, r); last = rw (p, q, r); known = λ g. absurd (false≢true (rw q at g)) }
+      go true p false q true r = record { days = rw (held_read, p, q, r); last = rw (held_read, p, q, r); known = λ g. absurd (false≢true (rw q at g)) }
       go true p false q false r =
           let k = same_state p in
           record {
-            days = unfold credential_after days_after loses_day in rw (p, q, r, k);
-            last = unfold credential_after in rw (p, q, r, k);
+            days = unfold credential_after days_after loses_day in rw (held_read, p, q, r, k);
+            last = unfold credential_after in rw (held_read, p, q, r, k);
             known = λ g. absurd (false≢true (rw q at g));
           }
 

@@ -15,7 +15,7 @@ use Rattle.model.specs.Words.{keep, all, missing}
 use Rattle.model.specs.Site.{record_kind, find_in, records}
 use Rattle.model.specs.State.{Pair, Panel, paired, panel, sites, state_of, find_by, fresh_point, fresh_credential, fresh_record_as, fresh_record, fresh}
 use Rattle.model.specs.Step.{apply, entry_outcome, after}
-use Rattle.model.proofs.Laws.{and_left, and_right, only, all_write, sites_apply}
+use Rattle.model.proofs.Laws.{and_left, and_right, only, if_any, all_write_of, sites_apply}
 use Rattle.model.proofs.RoundTrip.{length_zone, length_point, length_credential}
 use Rattle.model.specs.declared.Entry.{Entry}
 use Rattle.model.specs.declared.Outcome.{Outcome}
@@ -73,9 +73,10 @@ whole_store b l x h = rw (and_left (eqb (length x.0) 32) (eqb (length x.1) 32) h
 whole_apply : (o : Outcome) (ps : Panel) → all whole ps ≡ true → all whole (apply o ps) ≡ true
 unfolding apply
 whole_apply o ps a =
-    all_write whole _ 2 _ _ _ (λ x i. whole_store _ (length_point _) x)
-    (all_write whole _ 4 _ _ _ (λ x i. whole_store _ (length_credential _) x)
-    (all_write whole _ 1 _ _ _ (λ x i. whole_store _ (length_zone _) x) (all_write whole _ 1 _ _ ps (λ x i. whole_store _ (length_zone _) x) a)))
+    all_write_of whole 2 _ _ o.point _ (if_any _ o.point (λ w x i. whole_store _ (length_point w.state) x))
+    (all_write_of whole 4 _ _ o.credential _ (if_any _ o.credential (λ w x i. whole_store _ (length_credential w.state) x))
+    (all_write_of whole 1 _ _ o.zone_to _ (if_any _ o.zone_to (λ w x i. whole_store _ (length_zone w.state) x))
+    (all_write_of whole 1 _ _ o.zone_from ps (if_any _ o.zone_from (λ w x i. whole_store _ (length_zone w.state) x)) a)))
 
 pub whole_after : (es : List Entry) (ps : Panel) → all whole ps ≡ true → all whole (after ps es) ≡ true
 unfolding after

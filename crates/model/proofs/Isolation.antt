@@ -1,5 +1,6 @@
 -- Demand 3, the self-contained part: its answers and its state records are those of its own records and entries, worked through alone.
 use Rattle.std.specs.Prelude.{if◌then◌else◌}
+use Rattle.std.proofs.lemmas.Option.{IfSome_then}
 use Prim.Native.Nat.{ℕ}
 use mathlib.Core.Path.{◌≡◌, refl, sym, ◌∙◌, ap, ap₂}
 use mathlib.Core.List.{List, [], ◌∷◌, map}
@@ -18,7 +19,7 @@ use Rattle.model.specs.Demands.{Isolation}
 use Rattle.model.specs.declared.Entry.{Entry}
 use Rattle.model.specs.declared.PointState.{PointState}
 use Rattle.model.specs.declared.Outcome.{Outcome}
-use Rattle.model.proofs.Laws.{and_left, and_right, kind_at, only, all_write}
+use Rattle.model.proofs.Laws.{and_left, and_right, kind_at, only, if_any, all_write_of}
 use Rattle.model.proofs.RoundTrip.{point_back, refusal_back}
 use Rattle.model.proofs.Flat.{fresh_panel, only_fresh}
 use Rattle.model.proofs.Runs.{worked_at, all_entries, ended_panel, worked_list}
@@ -61,10 +62,10 @@ module _ (P : Part) where
       all (pair_inside P) (apply o ps) ≡ true
   unfolding apply
   apply_inside o side ps h a =
-      all_write (pair_inside P) o.point.written access_point o.point.instance.0 _ _ (point_written _ o.point.state h.waits)
-      (all_write (pair_inside P) o.credential.written access_credential _ _ _ (other_written access_credential _ refl _)
-      (all_write (pair_inside P) o.zone_to.written access_zone _ _ _ (other_written access_zone _ refl _)
-      (all_write (pair_inside P) o.zone_from.written access_zone _ _ ps (other_written access_zone _ refl _) a)))
+      all_write_of (pair_inside P) access_point _ _ o.point _ (IfSome_then o.point h.waits (λ w. point_written w.instance.0 w.state))
+      (all_write_of (pair_inside P) access_credential _ _ o.credential _ (if_any _ o.credential (λ w. other_written access_credential w.instance.0 refl _))
+      (all_write_of (pair_inside P) access_zone _ _ o.zone_to _ (if_any _ o.zone_to (λ w. other_written access_zone w.instance.0 refl _))
+      (all_write_of (pair_inside P) access_zone _ _ o.zone_from ps (if_any _ o.zone_from (λ w. other_written access_zone w.instance.0 refl _)) a)))
 
   -- A fresh point waits for nobody.
   fresh_wait : (s : List ℕ) → wait_inside P (s, fresh_record s) ≡ true

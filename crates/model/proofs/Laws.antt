@@ -1,5 +1,6 @@
 -- Laws of the panel: what a test keeps of it, what is found in it, what a write changes of it.
-use Rattle.std.specs.Prelude.{if◌then◌else◌}
+use Rattle.std.specs.Prelude.{if◌then◌else◌, Option, Some, None}
+use Rattle.std.specs.Option.{IfSome}
 use Prim.Native.Nat.{ℕ}
 use mathlib.Core.Path.{◌≡◌, refl, sym, ◌∙◌}
 use mathlib.Core.List.{List, [], ◌∷◌}
@@ -10,7 +11,8 @@ use Rattle.model.specs.Words.{keep, any, all, missing}
 use Rattle.model.specs.Numbers.{NONE}
 use Rattle.model.specs.Site.{kind, instance, is_at, find_in}
 use Rattle.model.specs.State.{Pair, Panel, find_by, find, store, write, sites}
-use Rattle.model.specs.Step.{apply}
+use Rattle.model.specs.Step.{write_of, apply}
+use Rattle.model.specs.declared.Write.{Write}
 use Rattle.model.specs.declared.Outcome.{Outcome}
 
 -- ── tests
@@ -95,17 +97,22 @@ module _ (w : List ℕ → Bool) (k i : ℕ) (b : List ℕ) where
 
 -- a test that the kind and the instance of a record decide: after an outcome, what is kept is what was kept with the same outcome
 module _ (w : List ℕ → Bool) (v : ℕ → ℕ → Bool) (agree : (k i : ℕ) (s : List ℕ) → is_at k i s ≡ true → w s ≡ v k i) where
-  only_write : (on : Bool) (k i : ℕ) (b : List ℕ) (ps : Panel) → only w (write on k i b ps) ≡ write on k i b (only w ps)
+  only_write : (k i : ℕ) (b : List ℕ) (ps : Panel) → only w (write k i b ps) ≡ write k i b (only w ps)
   unfolding write
-  only_write on k i b ps = go (on && not (eqb i NONE))
+  only_write k i b ps = go (eqb i NONE)
     where
-      go : (c : Bool) → only w (if c then store k i b ps else ps) ≡ (if c then store k i b (only w ps) else only w ps)
-      go true = only_store w k i b (v k i) (agree k i) ps
-      go false = refl
+      go : (c : Bool) → only w (if c then ps else store k i b ps) ≡ (if c then only w ps else store k i b (only w ps))
+      go true = refl
+      go false = only_store w k i b (v k i) (agree k i) ps
+
+  only_write_of : {I S : Type 0} (k : ℕ) (i : I → ℕ) (b : S → List ℕ) (o : Option (Write I S)) (ps : Panel) →
+      only w (write_of k i b o ps) ≡ write_of k i b o (only w ps)
+  only_write_of k i b None ps = refl
+  only_write_of k i b (Some u) ps = only_write k (i u.instance) (b u.state) ps
 
   pub only_apply : (o : Outcome) (ps : Panel) → only w (apply o ps) ≡ apply o (only w ps)
   unfolding apply
-  only_apply o ps = simp only_write
+  only_apply o ps = simp only_write_of
 
 -- what is found is found among what is kept, if it is kept
 pub find_only : (w q : List ℕ → Bool) (ps : Panel) → (q (find_by q ps).0 ≡ true → w (find_by q ps).0 ≡ true) →
@@ -210,17 +217,18 @@ found q (x ∷ xs) g = go (q x.0) refl g (found q xs)
     go true e g ih = e
     go false e g ih = ih g
 
-pub sites_write : (on : Bool) (k i : ℕ) (b : List ℕ) (ps : Panel) → sites (write on k i b ps) ≡ sites ps
+sites_write : (k i : ℕ) (b : List ℕ) (ps : Panel) → sites (write k i b ps) ≡ sites ps
 unfolding write
-sites_write on k i b ps = go (on && not (eqb i NONE))
-  where
-    go : (c : Bool) → sites (if c then store k i b ps else ps) ≡ sites ps
-    go true = sites_store k i b ps
-    go false = refl
+sites_write k i b ps = if_holds (λ qs. sites qs ≡ sites ps) (eqb i NONE) ps (store k i b ps) refl (sites_store k i b ps)
+
+pub sites_write_of : {I S : Type 0} (k : ℕ) (i : I → ℕ) (b : S → List ℕ) (o : Option (Write I S)) (ps : Panel) →
+    sites (write_of k i b o ps) ≡ sites ps
+sites_write_of k i b None ps = refl
+sites_write_of k i b (Some w) ps = sites_write k (i w.instance) (b w.state) ps
 
 pub sites_apply : (o : Outcome) (ps : Panel) → sites (apply o ps) ≡ sites ps
 unfolding apply
-sites_apply o ps = simp sites_write
+sites_apply o ps = simp sites_write_of
 
 -- an object of kind k and number i has a record
 abbrev pub There : ℕ → ℕ → Panel → Type 0
@@ -251,29 +259,52 @@ find_store_same k i b (x ∷ xs) g = go (is_at k i x.0) refl g (find_store_same 
     go false e g ih = rw e (ih g)
 
 -- the record of kind m and number j, after a write to a record of another kind
-pub find_write_other : (m j : ℕ) (on : Bool) (k i : ℕ) (b : List ℕ) (ps : Panel) → eqb k m ≡ false → find m j (write on k i b ps) ≡ find m j ps
+find_write_other : (m j k i : ℕ) (b : List ℕ) (ps : Panel) → eqb k m ≡ false → find m j (write k i b ps) ≡ find m j ps
 unfolding write find
-find_write_other m j on k i b ps d = go (on && not (eqb i NONE))
-  where
-    go : (c : Bool) → find_by (is_at m j) (if c then store k i b ps else ps) ≡ find_by (is_at m j) ps
-    go true = find_store_other (is_at m j) k i b (λ s a. rw (kind_at k i s a, d)) ps
-    go false = refl
+find_write_other m j k i b ps d =
+    if_holds (λ qs. find_by (is_at m j) qs ≡ find_by (is_at m j) ps) (eqb i NONE) ps (store k i b ps) refl
+    (find_store_other (is_at m j) k i b (λ s a. rw (kind_at k i s a, d)) ps)
+
+pub find_write_of_other : {I S : Type 0} (m j k : ℕ) (i : I → ℕ) (b : S → List ℕ) (o : Option (Write I S)) (ps : Panel) → eqb k m ≡ false →
+    find m j (write_of k i b o ps) ≡ find m j ps
+find_write_of_other m j k i b None ps d = refl
+find_write_of_other m j k i b (Some w) ps d = find_write_other m j k (i w.instance) (b w.state) ps d
 
 -- and to one of its kind
-pub find_write_same : (m j : ℕ) → eqb j NONE ≡ false → (on : Bool) (i : ℕ) (b : List ℕ) (ps : Panel) → There m j ps →
-    (find m j (write on m i b ps)).1 ≡ (if on && eqb i j then b else (find m j ps).1)
+find_write_same : (m j : ℕ) → eqb j NONE ≡ false → (i : ℕ) (b : List ℕ) (ps : Panel) → There m j ps →
+    (find m j (write m i b ps)).1 ≡ (if eqb i j then b else (find m j ps).1)
 unfolding write find
-find_write_same m j not_none on i b ps g = go on (eqb i j) refl
+find_write_same m j not_none i b ps g = go (eqb i j) refl
   where
-    other : (c : Bool) → eqb i j ≡ false → (find_by (is_at m j) (if c then store m i b ps else ps)).1 ≡ (find_by (is_at m j) ps).1
-    other true e = rw (find_store_other (is_at m j) m i b (λ s a. rw (instance_at m i s a, e, and-false)) ps)
-    other false e = refl
+    go : (d : Bool) → eqb i j ≡ d →
+        (find_by (is_at m j) (if eqb i NONE then ps else store m i b ps)).1 ≡ (if d then b else (find_by (is_at m j) ps).1)
+    go true e = rw (eqb-true i j e, not_none) (find_store_same m j b ps (rw (find_in_sites (is_at m j) ps) g))
+    go false e =
+        if_holds (λ qs. (find_by (is_at m j) qs).1 ≡ (find_by (is_at m j) ps).1) (eqb i NONE) ps (store m i b ps) refl
+        (rw (find_store_other (is_at m j) m i b (λ s a. rw (instance_at m i s a, e, and-false)) ps))
 
-    go : (c d : Bool) → eqb i j ≡ d →
-        (find_by (is_at m j) (if c && not (eqb i NONE) then store m i b ps else ps)).1 ≡ (if c && d then b else (find_by (is_at m j) ps).1)
-    go false d e = refl
-    go true false e = other (not (eqb i NONE)) e
-    go true true e = rw (eqb-true i j e, not_none) (find_store_same m j b ps (rw (find_in_sites (is_at m j) ps) g))
+-- the state that a write leaves an object of number j and state s; i is the number of an instance
+abbrev pub left_by : {I S : Type 0} → (I → ℕ) → ℕ → Option (Write I S) → S → S
+left_by i j None s = s
+left_by i j (Some w) s = if eqb (i w.instance) j then w.state else s
+
+-- that of a write that is made or not
+pub left_if : {I S : Type 0} (i : I → ℕ) (j : ℕ) (c : Bool) (w : Write I S) (s : S) →
+    left_by i j (if c then Some w else None) s ≡ (if c && eqb (i w.instance) j then w.state else s)
+left_if i j true w s = refl
+left_if i j false w s = refl
+
+-- it is what is read of the object's record afterwards, where r reads what b writes
+pub read_write_of : {I S : Type 0} (m : ℕ) (i : I → ℕ) (b : S → List ℕ) (r : List ℕ → S) → ((s : S) → r (b s) ≡ s) → (j : ℕ) →
+    eqb j NONE ≡ false → (o : Option (Write I S)) (ps : Panel) → There m j ps →
+    r (find m j (write_of m i b o ps)).1 ≡ left_by i j o (r (find m j ps).1)
+read_write_of m i b r back j not_none None ps g = refl
+read_write_of m i b r back j not_none (Some w) ps g =
+    rw (find_write_same m j not_none (i w.instance) (b w.state) ps g) (go (eqb (i w.instance) j))
+  where
+    go : (c : Bool) → r (if c then b w.state else (find m j ps).1) ≡ (if c then w.state else r (find m j ps).1)
+    go true = back w.state
+    go false = refl
 
 -- what all site records pass, the found one passes
 pub all_found_in : (t q : List ℕ → Bool) (ss : List (List ℕ)) → all t ss ≡ true → missing (find_in q ss) ≡ false → t (find_in q ss) ≡ true
@@ -285,14 +316,21 @@ all_found_in t q (s ∷ ss) a g = go (q s) g (all_found_in t q ss (and_right (t 
     go true g ih = and_left (t s) (all t ss) a
     go false g ih = ih g
 
-pub all_write : (t : Pair → Bool) (on : Bool) (k i : ℕ) (b : List ℕ) (ps : Panel) →
-    ((x : Pair) → is_at k i x.0 ≡ true → t x ≡ true → t (x.0, b) ≡ true) → all t ps ≡ true → all t (write on k i b ps) ≡ true
+all_write : (t : Pair → Bool) (k i : ℕ) (b : List ℕ) (ps : Panel) →
+    ((x : Pair) → is_at k i x.0 ≡ true → t x ≡ true → t (x.0, b) ≡ true) → all t ps ≡ true → all t (write k i b ps) ≡ true
 unfolding write
-all_write t on k i b ps h a = go (on && not (eqb i NONE))
-  where
-    go : (c : Bool) → all t (if c then store k i b ps else ps) ≡ true
-    go true = all_store t k i b h ps a
-    go false = a
+all_write t k i b ps h a = if_holds (λ qs. all t qs ≡ true) (eqb i NONE) ps (store k i b ps) a (all_store t k i b h ps a)
+
+-- what holds of all holds of the one that is there
+pub if_any : {A : Type 0} (Q : A → Type 0) (o : Option A) → ((a : A) → Q a) → IfSome o Q
+if_any Q None h = tt
+if_any Q (Some a) h = h a
+
+pub all_write_of : {I S : Type 0} (t : Pair → Bool) (k : ℕ) (i : I → ℕ) (b : S → List ℕ) (o : Option (Write I S)) (ps : Panel) →
+    IfSome o (λ w. (x : Pair) → is_at k (i w.instance) x.0 ≡ true → t x ≡ true → t (x.0, b w.state) ≡ true) → all t ps ≡ true →
+    all t (write_of k i b o ps) ≡ true
+all_write_of t k i b None ps h a = a
+all_write_of t k i b (Some w) ps h a = all_write t k (i w.instance) (b w.state) ps h a
 
 -- what is found among site records passes the test
 pub found_in : (q : List ℕ → Bool) (ss : List (List ℕ)) → missing (find_in q ss) ≡ false → q (find_in q ss) ≡ true

@@ -9,10 +9,10 @@ use lib.Dec.{ltb, eqb}
 use lib.ListN.{length, take, get_or, length-map, get_or-map}
 use lib.Seq.{take-suc}
 use Rattle.model.specs.Site.{point_of}
-use Rattle.model.specs.State.{Pair, Panel, panel, state_of, write}
+use Rattle.model.specs.State.{Pair, Panel, panel, state_of}
 use Rattle.model.specs.Entry.{entry_of, entries, answer_bytes}
 use Rattle.model.specs.Effects.{answer_with, outcome_with, outcome_of}
-use Rattle.model.specs.Step.{no_point, no_credential, no_count, no_answer, unchanged, refuse, factor_outcome, count_outcome, adjusted, adjust_outcome, disable_outcome, service_outcome, worked_outcome, entry_outcome, apply, after}
+use Rattle.model.specs.Step.{no_answer, unchanged, refuse, factor_outcome, count_outcome, adjusted, adjust_outcome, disable_outcome, service_outcome, worked_outcome, entry_outcome, apply, after}
 use Rattle.model.specs.Calls.{fresh_state, run_journal}
 use Rattle.model.specs.Lists.{run_on, refusal_in}
 use Rattle.model.specs.Demands.{TurnedBack, Refused}
@@ -56,7 +56,7 @@ refusal_entry ps e = entry_holds (λ o. Refusal) ps e (λ o r d. refusal_refuse 
 
 -- A refusal writes nothing.
 apply_refuse : (n : ℕ) (ps : Panel) → apply (refuse n) ps ≡ ps
-unfolding apply refuse unchanged no_point no_credential no_count write
+unfolding apply refuse unchanged
 apply_refuse n ps = refl
 
 -- ── the i-th entry of a run

@@ -1,5 +1,7 @@
 -- Where the records of a panel are well formed, they are so after every entry.
 use Rattle.std.specs.Prelude.{if◌then◌else◌, Option, Some, None}
+use Rattle.std.specs.Option.{IfSome}
+use Rattle.std.proofs.lemmas.Option.{IfSome_then}
 use Prim.Native.Nat.{ℕ}
 use mathlib.Core.Path.{◌≡◌, refl, ◌∙◌, ap}
 use mathlib.Core.List.{List, [], ◌∷◌}
@@ -15,18 +17,21 @@ use Rattle.model.specs.State.{Pair, Panel, sites, find, store, write, zone_bytes
 use Rattle.model.specs.Entry.{object_kind, in_form}
 use Rattle.model.specs.Checks.{relinquished, still_locked, waiting, authentication_of, into_zone, event_of}
 use Rattle.model.specs.Effects.{named, is_failure, failures_before, failures_with, locks_out, point_after, is_wrong_try, wrong_tries_with, reaches_most, wrong_tries_after, disable_reached, zone_after, credential_after, outcome_with, outcome_of}
-use Rattle.model.specs.Step.{no_point, no_credential, unchanged, refuse, factor_read, number_read, credential_at, situation_of, rules_at, factor_outcome, count_outcome, adjusted, adjust_outcome, disable_after, disable_outcome, locks, service_after, service_outcome, worked_outcome, entry_outcome, apply, after}
-use Rattle.model.proofs.Laws.{if_holds, and_left, and_right, or_right, kind_at, find_in_sites, all_write, sites_write, sites_apply}
+use Rattle.model.specs.Step.{write_of, unchanged, refuse, factor_read, number_read, credential_at, situation_of, rules_at, factor_outcome, count_outcome, adjusted, adjust_outcome, disable_after, disable_outcome, locks, service_after, service_outcome, worked_outcome, entry_outcome, apply, after}
+use Rattle.model.proofs.Laws.{if_holds, and_left, and_right, or_right, kind_at, find_in_sites, if_any, all_write_of, sites_write_of, sites_apply}
 use Rattle.model.proofs.Outcomes.{entry_holds}
 use Rattle.model.proofs.Credentials.{credential_read_law}
 use Rattle.model.proofs.Well.{none_fits, exists_fits, none_below, if_below, PointSound, CredentialSound, fresh_point_law, fresh_credential_law, zone_well_law, point_well_law, credential_well_law, point_found, credential_found, credential_sought, to_fits, number_fits}
 use Rattle.model.specs.declared.ZoneId.{ZoneId}
 use Rattle.model.specs.declared.CredentialId.{CredentialId}
+use Rattle.model.specs.declared.PointId.{PointId}
 use Rattle.model.specs.declared.PointState.{PointState}
+use Rattle.model.specs.declared.CredentialState.{CredentialState}
 use Rattle.model.specs.declared.Situation.{Situation}
 use Rattle.model.specs.declared.Verdict.{Verdict}
 use Rattle.model.specs.declared.Entry.{Entry}
 use Rattle.model.specs.declared.Answer.{Answer}
+use Rattle.model.specs.declared.Write.{Write}
 use Rattle.model.specs.declared.Outcome.{Outcome}
 use Rattle.model.specs.declared.Operation.{Operation}
 use Rattle.model.specs.declared.Operation.TheVariants.{Factor, SetCount, AdjustCount, SetDisable, SetService}
@@ -150,29 +155,30 @@ module _ (ss : List (List ℕ)) (v : Situation) (e : Entry) (x : ℕ) (h : Seen 
 
 -- ── outcomes that leave sound states
 
--- The most wrong tries of the credential that an outcome names.
-most_named : List (List ℕ) → Outcome → ℕ
-most_named ss o = (credential_of (find_in (is_at n.access_credential o.credential.instance.0) ss)).most_wrong_tries
+-- A point's state that is written is sound for the most failures of that point.
+abbrev PointKept : List (List ℕ) → Write PointId PointState → Type 0
+PointKept ss w = PointSound ss (point_of (find_in (is_at n.access_point w.instance.0) ss)).most_failures w.state
 
--- The point's state is sound for the most failures of the point that the outcome names, the credential's for its most wrong tries, unless it is NONE.
+-- A credential's for its most wrong tries, unless it is NONE.
+abbrev CredentialKept : List (List ℕ) → Write CredentialId CredentialState → Type 0
+CredentialKept ss w =
+    eqb w.instance.0 NONE ≡ false →
+    CredentialSound ss (credential_of (find_in (is_at n.access_credential w.instance.0) ss)).most_wrong_tries w.state
+
+-- All that an outcome writes is sound.
 record Sound (ss : List (List ℕ)) (o : Outcome) : Type 0 where
-  point : PointSound ss (point_of (find_in (is_at n.access_point o.point.instance.0) ss)).most_failures o.point.state
-  credential : eqb o.credential.instance.0 NONE ≡ false → CredentialSound ss (most_named ss o) o.credential.state
-
--- The credential's state that stands where none is written.
-unwritten : (ss : List (List ℕ)) (most : ℕ) → CredentialSound ss most no_credential.state
-unfolding no_credential
-unwritten ss most = fresh_credential_law ss most 0 0 0 refl
+  point : IfSome o.point (PointKept ss)
+  credential : IfSome o.credential (CredentialKept ss)
 
 -- An outcome that writes nothing.
 sound_unchanged : (ss : List (List ℕ)) (a : Answer) → Sound ss (unchanged a)
-unfolding unchanged no_point
-sound_unchanged ss a = record { point = fresh_point_law ss _; credential = λ i. unwritten ss _ }
+unfolding unchanged
+sound_unchanged ss a = record { point = tt; credential = tt }
 
 -- An outcome that writes a count.
 sound_count : (ss : List (List ℕ)) (e : Entry) (counted : ℕ) → Sound ss (count_outcome e counted)
-unfolding count_outcome no_point
-sound_count ss e counted = record { point = fresh_point_law ss _; credential = λ i. unwritten ss _ }
+unfolding count_outcome
+sound_count ss e counted = record { point = tt; credential = tt }
 
 -- An adjustment of a count.
 sound_adjust : (ss : List (List ℕ)) (e : Entry) (counted : ℕ) → Sound ss (adjust_outcome e counted)
@@ -186,11 +192,13 @@ sound_outcome : (ss : List (List ℕ)) (v : Situation) (e : Entry) (x : ℕ) →
     (still_locked v e ≡ true → x ≡ n.denied_lockout) → v.point ≡ point_of (find_in (is_at n.access_point e.instance) ss) →
     (eqb v.number.0 NONE ≡ false → v.credential ≡ credential_of (find_in (is_at n.access_credential v.number.0) ss)) →
     none_or_exists ss n.access_point e.instance ≡ true → Sound ss (outcome_of v e x)
-unfolding outcome_of outcome_with most_named named
+unfolding outcome_of outcome_with named
 sound_outcome ss v e x h l p c i =
     record {
       point = rw (← p) (point_after_law ss v e x h l);
-      credential = go (not (waiting v) && (eqb x n.denied_lockout || eqb x n.denied_authentication_factor_error));
+      credential =
+          if_holds (λ o. IfSome o (CredentialKept ss)) (eqb x n.no_event) None (Some _) tt
+          (go (not (waiting v) && (eqb x n.denied_lockout || eqb x n.denied_authentication_factor_error)));
     }
   where
     go : (b : Bool) → eqb (if b then credential_id NONE else v.number).0 NONE ≡ false →
@@ -231,11 +239,11 @@ module _ (ss : List (List ℕ)) (ps : Panel) (of_site : sites ps ≡ ss) (well :
   -- Operation 4.
   sound_disable : in_form (Some SetDisable) e ≡ true →
       Sound ss (disable_outcome e (credential_state_of (find n.access_credential e.instance ps).1))
-  unfolding disable_outcome no_point disable_after in_form
+  unfolding disable_outcome disable_after in_form
   sound_disable f =
       let c = credential_found ss ps well e.instance in
       record {
-        point = fresh_point_law ss _;
+        point = tt;
         credential = λ i. record { disabled = search and_left; inside = c.inside; seen = c.seen; tries = none_below _ };
       }
 
@@ -246,7 +254,7 @@ module _ (ss : List (List ℕ)) (ps : Panel) (of_site : sites ps ≡ ss) (well :
       record {
         point =
             rw (← found_site n.access_point e.instance) (service_after_law ss _ e _ (point_found ss ps well e.instance));
-        credential = λ i. unwritten ss _;
+        credential = tt;
       }
 
   module _ (names : all (names_exist ss) ss ≡ true) where
@@ -315,30 +323,40 @@ module _ (t : Pair → Bool) (k i : ℕ) (b : List ℕ) where
       go true e h ih = rw (h e, and_right (t x) (all t xs) a)
       go false e h ih = rw (and_left (t x) (all t xs) a, ih h)
 
-  -- So does a write under a flag, of NONE or of such bytes.
-  all_write_found : (on : Bool) (ps : Panel) → (eqb i NONE ≡ false → Passes (sites ps)) → all t ps ≡ true → all t (write on k i b ps) ≡ true
+  -- So does a write to NONE or of such bytes.
+  all_write_found : (ps : Panel) → (eqb i NONE ≡ false → Passes (sites ps)) → all t ps ≡ true → all t (write k i b ps) ≡ true
   unfolding write
-  all_write_found on ps h a = go (on && not (eqb i NONE)) refl
+  all_write_found ps h a = go (eqb i NONE) refl
     where
-      go : (c : Bool) → on && not (eqb i NONE) ≡ c → all t (if c then store k i b ps else ps) ≡ true
-      go true w = all_store_found ps (h (not-true (eqb i NONE) (and_right on (not (eqb i NONE)) w))) a
-      go false w = a
+      go : (c : Bool) → eqb i NONE ≡ c → all t (if c then ps else store k i b ps) ≡ true
+      go true e = a
+      go false e = all_store_found ps (h e) a
+
+-- And a write that an outcome makes or not.
+all_write_of_found : {I S : Type 0} (t : Pair → Bool) (k : ℕ) (i : I → ℕ) (b : S → List ℕ) (o : Option (Write I S)) (ps : Panel) →
+    IfSome o (λ w. eqb (i w.instance) NONE ≡ false → Passes t k (i w.instance) (b w.state) (sites ps)) → all t ps ≡ true →
+    all t (write_of k i b o ps) ≡ true
+all_write_of_found t k i b None ps h a = a
+all_write_of_found t k i b (Some w) ps h a = all_write_found t k (i w.instance) (b w.state) ps h a
+
+-- A count that is written is well formed.
+zone_kept : (ss : List (List ℕ)) (w : Write ZoneId ℕ) (x : Pair) → is_at n.access_zone w.instance.0 x.0 ≡ true → record_well ss x ≡ true →
+    record_well ss (x.0, zone_bytes w.state) ≡ true
+zone_kept ss w x p q = zone_well_law ss x.0 w.state (kind_at n.access_zone w.instance.0 x.0 p)
 
 -- An outcome that leaves sound states leaves well-formed records.
 apply_well : (ss : List (List ℕ)) (o : Outcome) (ps : Panel) → sites ps ≡ ss → Sound ss o → all (record_well ss) ps ≡ true →
     all (record_well ss) (apply o ps) ≡ true
-unfolding apply Passes most_named
+unfolding apply Passes
 apply_well ss o ps of_site h a =
-    all_write_found (record_well ss) n.access_point o.point.instance.0 (point_bytes o.point.state) o.point.written _
-    (simp (sites_write, of_site)
-    (λ d p. point_well_law ss _ o.point.state (kind_at n.access_point o.point.instance.0 _ p) h.point))
-    (all_write_found (record_well ss) n.access_credential o.credential.instance.0 (credential_bytes o.credential.state) o.credential.written _
-    (simp (sites_write, of_site)
-    (λ d p. credential_well_law ss _ o.credential.state (kind_at n.access_credential o.credential.instance.0 _ p) (h.credential d)))
-    (all_write (record_well ss) o.zone_to.written n.access_zone o.zone_to.instance.0 (zone_bytes o.zone_to.count) _
-    (λ x p w. zone_well_law ss x.0 o.zone_to.count (kind_at n.access_zone o.zone_to.instance.0 x.0 p))
-    (all_write (record_well ss) o.zone_from.written n.access_zone o.zone_from.instance.0 (zone_bytes o.zone_from.count) ps
-    (λ x p w. zone_well_law ss x.0 o.zone_from.count (kind_at n.access_zone o.zone_from.instance.0 x.0 p)) a)))
+    all_write_of_found (record_well ss) n.access_point _ _ o.point _
+    (simp (sites_write_of, of_site)
+    (IfSome_then o.point h.point (λ w p d q. point_well_law ss _ w.state (kind_at n.access_point w.instance.0 _ q) p)))
+    (all_write_of_found (record_well ss) n.access_credential _ _ o.credential _
+    (simp (sites_write_of, of_site)
+    (IfSome_then o.credential h.credential (λ w p d q. credential_well_law ss _ w.state (kind_at n.access_credential w.instance.0 _ q) (p d))))
+    (all_write_of (record_well ss) n.access_zone _ _ o.zone_to _ (if_any _ o.zone_to (zone_kept ss))
+    (all_write_of (record_well ss) n.access_zone _ _ o.zone_from ps (if_any _ o.zone_from (zone_kept ss)) a)))
 
 -- One entry leaves well-formed records.
 pub step_well : (ss : List (List ℕ)) → all (names_exist ss) ss ≡ true → (e : Entry) (ps : Panel) → sites ps ≡ ss →

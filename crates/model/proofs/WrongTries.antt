@@ -17,7 +17,7 @@ use Rattle.model.specs.State.{Pair, Panel, sites, find_by, find, panel, credenti
 use Rattle.model.specs.Entry.{entry_of, answer_bytes, operation_of, object_kind}
 use Rattle.model.specs.Checks.{event_of}
 use Rattle.model.specs.Effects.{named, is_wrong_try, wrong_tries_with, reaches_most, wrong_tries_after, disable_reached, credential_after, answer_with, outcome_with, outcome_of}
-use Rattle.model.specs.Step.{no_credential, unchanged, refuse, situation_of, rules_at, factor_outcome, count_outcome, adjusted, adjust_outcome, disable_after, disable_outcome, locks, service_outcome, worked_outcome, entry_outcome, apply, panels, after, answers}
+use Rattle.model.specs.Step.{unchanged, refuse, situation_of, rules_at, factor_outcome, count_outcome, adjusted, adjust_outcome, disable_after, disable_outcome, locks, service_outcome, worked_outcome, entry_outcome, apply, panels, after, answers}
 use Rattle.model.specs.Calls.{is_worked, check_state, run_returned, run_journal}
 use Rattle.model.specs.Lists.{Run, run_on, Worked, worked_by, worked_in, History}
 use Rattle.model.specs.DayPasses.{is_grant_of, state_left}
@@ -39,7 +39,7 @@ use Rattle.model.proofs.Well.{credential_found}
 use Rattle.model.proofs.KeptWell.{Taken, state_taken}
 use Rattle.model.proofs.Outcomes.{entry_holds}
 use Rattle.model.proofs.Granted.{granted_enabled}
-use Rattle.model.proofs.Credentials.{is_credential, held, held_by, held_apply, grants, credential_read_law, named_number, state_read, held_fresh, state_left_law}
+use Rattle.model.proofs.Credentials.{is_credential, held, held_by, held_apply, held_read, grants, credential_read_law, named_number, state_read, held_fresh, state_left_law}
 
 -- ── one entry, by the fields of its answer
 
@@ -77,9 +77,9 @@ record Tries (most c : ℕ) (e : Entry) (s : CredentialState) (o : Option Operat
 
 module _ (most c : ℕ) (e : Entry) (s : CredentialState) where
   -- An outcome that writes no credential, neither grants nor is a wrong try, and is no accepted operation 4.
-  tries_none : (o : Option Operation) (u : Outcome) → u.credential ≡ no_credential → disables c o e u.answer ≡ false → grants c u.answer ≡ false →
+  tries_none : (o : Option Operation) (u : Outcome) → u.credential ≡ None → disables c o e u.answer ≡ false → grants c u.answer ≡ false →
       is_try c u.answer ≡ false → Tries most c e s o u
-  unfolding held_by no_credential tried_with
+  unfolding held_by tried_with
   tries_none o u k d g m = record { left = simp (k, d, g, m, and-false); enabled = λ h. absurd (false≢true (rw g at h)) }
 
   tries_refuse : (o : Option Operation) (r : ℕ) → eqb r n.not_refused ≡ false → Tries most c e s o (refuse r)
@@ -111,25 +111,26 @@ module _ (c : ℕ) (not_none : eqb c NONE ≡ false) (most : ℕ) (e : Entry) wh
       (eqb (named v x).0 c ≡ true → (v.credential_state ≡ s) × (v.credential.most_wrong_tries ≡ most)) →
       (eqb (named v x).0 c ≡ true → eqb x n.granted ≡ true → eqb s.disable n.disable_lockout ≡ false) →
       Tries most c e s (Some Factor) (outcome_of v e x)
-  unfolding held_by outcome_of outcome_with answer_with tried_with is_wrong_try
+  unfolding outcome_of outcome_with answer_with tried_with is_wrong_try
   tries_event v s x same enabled = go (eqb (named v x).0 c) refl (eqb x n.granted) refl (eqb x n.no_event) refl
     where
       counted : Bool
       counted = not (eqb most 0) && (eqb x n.denied_authentication_factor_timeout || eqb x n.denied_incorrect_authentication_factor)
 
       go : (b : Bool) → eqb (named v x).0 c ≡ b → (d : Bool) → eqb x n.granted ≡ d → (f : Bool) → eqb x n.no_event ≡ f → Tries most c e s (Some Factor) (outcome_of v e x)
-      go false p d q f r = record { left = simp (p, and-false); enabled = λ g. absurd (false≢true (simp (p, and-false) at g)) }
+      go false p d q f r = record { left = simp (held_read, p, and-false); enabled = λ g. absurd (false≢true (simp (p, and-false) at g)) }
       go true p true q true r = absurd (let y = eqb-true x 1 q in let z = eqb-true x 0 r in omega arith)
       go true p true q false r =
           let k = same p in
-          record { left = rw (p, q, r) (after_grant v x (eqb-true x 1 q) ∙ ap (λ (t : CredentialState). tried 0 t.disable) k.0); enabled = λ g. enabled p q }
-      go true p false q true r = record { left = let z = eqb-true x 0 r in simp (z, and-false); enabled = λ g. absurd (false≢true (rw q at g)) }
+          record { left = rw (held_read, p, q, r) (after_grant v x (eqb-true x 1 q) ∙ ap (λ (t : CredentialState). tried 0 t.disable) k.0); enabled = λ g. enabled p q }
+      go true p false q true r = record { left = let z = eqb-true x 0 r in simp (held_read, z, and-false); enabled = λ g. absurd (false≢true (rw q at g)) }
       go true p false q false r =
           let k = same p in
           record {
             left =
-                simp (p, q, r, and-true)
-                (after_try v x counted (rw k.1) q ∙ ap₂ (λ m (t : CredentialState). if counted then tried_once m (tried_in t) else tried_in t) k.1 k.0);
+                rw held_read
+                (simp (p, q, r, and-true)
+                (after_try v x counted (rw k.1) q ∙ ap₂ (λ m (t : CredentialState). if counted then tried_once m (tried_in t) else tried_in t) k.1 k.0));
             enabled = λ g. absurd (false≢true (rw q at g));
           }
 
