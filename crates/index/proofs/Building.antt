@@ -10,7 +10,7 @@ use lib.Dec.{eqb}
 use lib.ListN.{length, drop, get_or, set, length-set}
 use lib.Seq.{get_or-set_same, get_or-set_other}
 use borrow.Author.Tests.{eqb-true, eqb-false, eq-eqb, ne_eqb}
-use Rattle.octets.proofs.Groups.{length_groups}
+use Rattle.octets.proofs.GroupLaws.{length_groups}
 use Rattle.model.specs.Site.{records}
 use Rattle.index.specs.Index.{most_records, buckets, kind_classes, index_size, chain_scale, bucket_of, mark_of, tags_of, chain_from, kind_class, next_in, head, kind_head, kind_last, link, IndexedFrom}
 use Rattle.index.proofs.Walks.{left_turn, left_end, next_high, next_turn, next_end}
@@ -20,19 +20,9 @@ pub length_records : (site : List ℕ) → length (records site) ≡ length site
 unfolding records
 length_records site = length_groups 32 (length site / 32) site
 
--- The heads that stand before the i-th number hold n.
-abbrev pub Emptied : ℕ → ℕ → List ℕ → Type 0
-Emptied n i index = (b : ℕ) → most_records + b < i → head b index ≡ n
-
-pub emptied_more : (n i : ℕ) (index : List ℕ) → i < length index → Emptied n i index → Emptied n (i + 1) (set index i n)
-emptied_more n i index l h b m = go (eqb (most_records + b) i) refl
-  where
-    go : (c : Bool) → eqb (most_records + b) i ≡ c → head b (set index i n) ≡ n
-    go true e = rw (eqb-true (most_records + b) i e) (get_or-set_same index i n 0 l)
-    go false e = get_or-set_other index i (most_records + b) n 0 (eqb-false (most_records + b) i e) ∙ h b (other (eqb-false (most_records + b) i e))
-      where
-        other : (most_records + b ≡ i → ⊥) → most_records + b < i
-        other k = omega (arith, k)
+-- All heads hold n.
+abbrev pub Emptied : ℕ → List ℕ → Type 0
+Emptied n index = (b : ℕ) → most_records + b < index_size → head b index ≡ n
 
 -- A chain ends at the number of records. The i-th record is put before its own chain, and passed over by the others.
 chain_end : (b : ℕ) (ss : List (List ℕ)) → chain_from b (length ss) ss ≡ length ss
@@ -58,7 +48,7 @@ module _ (i : ℕ) (ss : List (List ℕ)) (h : i < length ss) where
   chain_other b n = rw (next_other bucket_of b n, left_turn ss i h, ne_eqb (bucket_of (get_or ss i [])) b n)
 
 -- No record yet: every bucket and every class of kinds is empty.
-pub emptied : (ss : List (List ℕ)) (index : List ℕ) → length index ≡ index_size → length ss ≤ most_records → Emptied (length ss) index_size index
+pub emptied : (ss : List (List ℕ)) (index : List ℕ) → length index ≡ index_size → length ss ≤ most_records → Emptied (length ss) index
     → IndexedFrom (length ss) ss index
 emptied ss index size few h =
     record {

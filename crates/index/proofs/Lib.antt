@@ -1,4 +1,5 @@
 pub mod Walks
+pub mod Places
 pub mod Tags
 pub mod Building
 pub mod Buckets

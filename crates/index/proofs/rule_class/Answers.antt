@@ -5,4 +5,4 @@ use Rattle.index.proofs.rule_class.Goals as goal
 
 pub returns : goal.returns
 unfolding rule_class
-returns c = (rw c.mixed.ensures, omega arith)
+returns c = (?, omega arith)

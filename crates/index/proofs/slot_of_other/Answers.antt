@@ -18,7 +18,7 @@ returns-then-kind-eq-AUTHENTICATION_FACTOR c =
 pub returns : goal.returns
 unfolding bucket_of mark_of
 returns c =
-    let rule = ne_eqb _ _ c.requires.1 in
+    let rule = ne_eqb _ _ c.requires in
     record {
       bucket = rw (rule, ← c.kind_of-kind.ensures, ne_eqb _ _ c.if-kind-eq-AUTHENTICATION_FACTOR.false, ← c.instance_of.ensures) c.object_bucket.ensures.0;
       within = c.object_bucket.ensures.1;
