@@ -1,4 +1,6 @@
 // The operation that an entry asks for, and whether its fields have the form that refusal 7 asks.
+#![tactic(auto, unfolding(model::specs::Entry::operation_of, model::specs::Entry::no_amount, model::specs::Entry::no_value, model::specs::Entry::in_form))]
+
 ghost use Rattle.std.specs.Prelude.{◌≡◌};
 ghost use Rattle.octets.specs.Octets.{same};
 ghost use Rattle.model.specs.Words.{zeros};
@@ -25,11 +27,11 @@ pub fn operation_of(n: u8) -> Operation
 }
 
 // Whether all eight bytes are zero.
+#[tactic(auto, using(octets::proofs::Laws::pointwise_same))]
 fn is_zero(value: [u8; 8]) -> bool
     ensures { result ≡ same value (zeros 8) }
 {
-    let zero = [0u8; 8];
-    octets::same_bytes(&value, &zero)
+    value == [0; 8]
 }
 
 fn no_amount(e: Entry) -> bool
@@ -41,8 +43,7 @@ fn no_amount(e: Entry) -> bool
 fn no_value(e: Entry) -> bool
     ensures { result ≡ no_value e }
 {
-    let value = e.value;
-    is_zero(value)
+    is_zero(e.value)
 }
 
 // The argument, the amount and the value are those of the operation.

@@ -1,52 +1,38 @@
-// Entries, read, and answers, written.
-ghost use Rattle.std.specs.Prelude.{◌≡◌, ◌+◌, ◌≤◌, length, take, drop};
+// Entries, read, and answers, as bytes.
+ghost use Rattle.std.specs.Prelude.{◌≡◌};
 ghost use Rattle.model.specs.Entry.{entry_of, answer_bytes};
 
+use model::numbers::{ANSWER_SIZE, ENTRY_SIZE};
 use model::{Answer, Entry, layout};
+use octets::Number;
 
-// The eight bytes from an offset on, by value.
-pub fn eight(part: &[u8], at: usize) -> [u8; 8]
-    requires { at + 8 ≤ length part.now }
-    ensures { result ≡ take 8 (drop at part.now) }
-{
-    [
-        part[at],
-        part[at + 1],
-        part[at + 2],
-        part[at + 3],
-        part[at + 4],
-        part[at + 5],
-        part[at + 6],
-        part[at + 7],
-    ]
-}
-
-// The entry in 24 bytes.
-pub fn entry_of(part: &[u8]) -> Entry
-    requires { length part.now ≡ 24 }
+// The entry in its bytes.
+#[tactic(auto, unfolding(model::specs::Entry::entry_of))]
+pub fn entry_of(part: &[u8; ENTRY_SIZE]) -> Entry
     ensures { result ≡ entry_of part.now }
 {
-    let value = eight(part, layout::ENTRY_VALUE);
     Entry {
-        operation: octets::get_u8(part, layout::ENTRY_OPERATION),
-        argument: octets::get_u8(part, layout::ENTRY_ARGUMENT),
-        spare: octets::get_u16(part, layout::ENTRY_SPARE),
-        time: octets::get_u32(part, layout::ENTRY_TIME),
-        instance: octets::get_u32(part, layout::ENTRY_INSTANCE),
-        amount: octets::get_u32(part, layout::ENTRY_AMOUNT),
-        value: value,
+        operation: u8::get(part, layout::ENTRY_OPERATION),
+        argument: u8::get(part, layout::ENTRY_ARGUMENT),
+        spare: u16::get(part, layout::ENTRY_SPARE),
+        time: u32::get(part, layout::ENTRY_TIME),
+        instance: u32::get(part, layout::ENTRY_INSTANCE),
+        amount: u32::get(part, layout::ENTRY_AMOUNT),
+        value: *part[layout::ENTRY_VALUE..].first_chunk().unwrap(),
     }
 }
 
-// The answer in its own 16 bytes, all of them.
-pub fn write_answer(part: &mut [u8], a: Answer)
-    requires { length part.old ≡ 16 }
-    ensures { part.new ≡ answer_bytes a }
+// The answer in its bytes, all of them.
+#[tactic(auto, unfolding(octets::specs::Octets::put, octets::specs::Octets::digits, model::specs::Entry::answer_bytes))]
+pub fn answer_bytes(a: Answer) -> [u8; ANSWER_SIZE]
+    ensures { result ≡ answer_bytes a }
 {
-    octets::put_u16(part, layout::ANSWER_EVENT, a.event);
-    octets::put_u8(part, layout::ANSWER_MARKS, a.marks);
-    octets::put_u8(part, layout::ANSWER_REFUSAL, a.refusal);
-    octets::put_u32(part, layout::ANSWER_TAG, a.tag);
-    octets::put_u32(part, layout::ANSWER_CREDENTIAL, a.credential.0);
-    octets::put_u32(part, layout::ANSWER_COUNT, a.count);
+    let mut part = [0; ANSWER_SIZE];
+    a.event.put(&mut part, layout::ANSWER_EVENT);
+    a.marks.put(&mut part, layout::ANSWER_MARKS);
+    a.refusal.put(&mut part, layout::ANSWER_REFUSAL);
+    a.tag.put(&mut part, layout::ANSWER_TAG);
+    a.credential.0.put(&mut part, layout::ANSWER_CREDENTIAL);
+    a.count.put(&mut part, layout::ANSWER_COUNT);
+    part
 }

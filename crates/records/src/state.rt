@@ -1,100 +1,117 @@
-// The fields of state records: read, fresh, and written. A writer is lent the record's own 32 bytes, and writes all of them.
-ghost use Rattle.std.specs.Prelude.{◌≡◌, length};
-ghost use Rattle.octets.specs.Octets.{put};
-ghost use Rattle.model.specs.Words.{zeros};
+// The fields of state records: read, fresh, and as bytes.
+#![tactic(auto, unfolding(model::specs::State::point_state_of, model::specs::State::credential_state_of, model::specs::State::fresh_point, model::specs::State::fresh_with))]
+
+ghost use Rattle.std.specs.Prelude.{◌≡◌};
 ghost use Rattle.model.specs.State as State;
 ghost use Rattle.model.specs.State.{zone_bytes, point_state_of, point_bytes, credential_state_of, credential_bytes, fresh_point, fresh_with};
-ghost use Rattle.records.specs.Part.{Part};
 
-use super::fields::{byte_at, byte_of, long_at, reference_at, short_at};
+use super::fields::{number_at, reference_at};
+use super::{FromRecord, Record, ToRecord};
 use model::numbers::{NEVER, NONE, RECORD_SIZE};
 use model::{CredentialId, CredentialState, PointId, PointState, ZoneId, layout};
+use octets::Number;
 
 // A zone's count.
-pub fn count_of(part: &[u8]) -> u32
-    requires { Part part.now }
+pub fn count_of(part: &Record) -> u32
     ensures { result ≡ State.count part.now }
 {
-    long_at(part, layout::ZONE_STATE_COUNT)
+    number_at(part, layout::ZONE_STATE_COUNT)
 }
 
-pub fn tag_of(part: &[u8]) -> u32
-    requires { Part part.now }
+pub fn tag_of(part: &Record) -> u32
     ensures { result ≡ (point_state_of part.now).tag }
 {
-    long_at(part, layout::POINT_STATE_TAG)
+    number_at(part, layout::POINT_STATE_TAG)
 }
 
 // The byte that says whether a point is locked.
-pub fn locked_byte_of(part: &[u8]) -> u8
-    requires { Part part.now }
+pub fn locked_byte_of(part: &Record) -> u8
     ensures { result ≡ State.locked_byte part.now }
 {
-    byte_at(part, layout::POINT_STATE_LOCKED)
+    number_at(part, layout::POINT_STATE_LOCKED)
 }
 
-pub fn point_state_of(part: &[u8]) -> PointState
-    requires { Part part.now }
-    ensures { result ≡ point_state_of part.now }
-{
-    PointState {
-        tag: tag_of(part),
-        failures: byte_at(part, layout::POINT_STATE_FAILURES),
-        locked: locked_byte_of(part) == 1,
-        lock_time: long_at(part, layout::POINT_STATE_LOCK_TIME),
-        first_failure: long_at(part, layout::POINT_STATE_FIRST_FAILURE),
-        waiting_credential: CredentialId(reference_at(
-            part,
-            layout::POINT_STATE_WAITING_CREDENTIAL,
-        )),
-        waiting_since: long_at(part, layout::POINT_STATE_WAITING_SINCE),
+impl FromRecord for PointState {
+    ghost of_record = { point_state_of };
+
+    fn from_record(part: &Record) -> PointState {
+        PointState {
+            tag: tag_of(part),
+            failures: number_at(part, layout::POINT_STATE_FAILURES),
+            locked: locked_byte_of(part) == 1,
+            lock_time: number_at(part, layout::POINT_STATE_LOCK_TIME),
+            first_failure: number_at(part, layout::POINT_STATE_FIRST_FAILURE),
+            waiting_credential: CredentialId(reference_at(
+                part,
+                layout::POINT_STATE_WAITING_CREDENTIAL,
+            )),
+            waiting_since: number_at(part, layout::POINT_STATE_WAITING_SINCE),
+        }
+    }
+
+    #[tactic(auto, unfolding(octets::specs::Octets::field, model::specs::Site::reference, model::specs::State::point_state_of, model::specs::State::fresh_point))]
+    fn missing() -> PointState {
+        fresh_point()
     }
 }
 
 // The fields of a credential's state that have a range, each by itself: the reader of the whole is not inlined where every record is checked.
-pub fn credential_disable_of(part: &[u8]) -> u8
-    requires { Part part.now }
+pub fn credential_disable_of(part: &Record) -> u8
     ensures { result ≡ (credential_state_of part.now).disable }
 {
-    byte_at(part, layout::CREDENTIAL_STATE_DISABLE)
+    number_at(part, layout::CREDENTIAL_STATE_DISABLE)
 }
 
-pub fn credential_zone_of(part: &[u8]) -> ZoneId
-    requires { Part part.now }
+pub fn credential_zone_of(part: &Record) -> ZoneId
     ensures { result ≡ (credential_state_of part.now).zone }
 {
     ZoneId(reference_at(part, layout::CREDENTIAL_STATE_ZONE))
 }
 
-pub fn wrong_tries_of(part: &[u8]) -> u8
-    requires { Part part.now }
+pub fn wrong_tries_of(part: &Record) -> u8
     ensures { result ≡ (credential_state_of part.now).wrong_tries }
 {
-    byte_at(part, layout::CREDENTIAL_STATE_WRONG_TRIES)
+    number_at(part, layout::CREDENTIAL_STATE_WRONG_TRIES)
 }
 
-pub fn last_point_of(part: &[u8]) -> PointId
-    requires { Part part.now }
+pub fn last_point_of(part: &Record) -> PointId
     ensures { result ≡ (credential_state_of part.now).last_point }
 {
     PointId(reference_at(part, layout::CREDENTIAL_STATE_LAST_POINT))
 }
 
-pub fn credential_state_of(part: &[u8]) -> CredentialState
-    requires { Part part.now }
-    ensures { result ≡ credential_state_of part.now }
-{
-    CredentialState {
-        uses: short_at(part, layout::CREDENTIAL_STATE_USES),
-        days: short_at(part, layout::CREDENTIAL_STATE_DAYS),
-        last_use: long_at(part, layout::CREDENTIAL_STATE_LAST_USE),
-        zone: credential_zone_of(part),
-        entered: long_at(part, layout::CREDENTIAL_STATE_ENTERED),
-        last_event: short_at(part, layout::CREDENTIAL_STATE_LAST_EVENT),
-        disable: credential_disable_of(part),
-        wrong_tries: wrong_tries_of(part),
-        last_point: last_point_of(part),
-        last_grant: long_at(part, layout::CREDENTIAL_STATE_LAST_GRANT),
+impl FromRecord for CredentialState {
+    ghost of_record = { credential_state_of };
+
+    fn from_record(part: &Record) -> CredentialState {
+        CredentialState {
+            uses: number_at(part, layout::CREDENTIAL_STATE_USES),
+            days: number_at(part, layout::CREDENTIAL_STATE_DAYS),
+            last_use: number_at(part, layout::CREDENTIAL_STATE_LAST_USE),
+            zone: credential_zone_of(part),
+            entered: number_at(part, layout::CREDENTIAL_STATE_ENTERED),
+            last_event: number_at(part, layout::CREDENTIAL_STATE_LAST_EVENT),
+            disable: credential_disable_of(part),
+            wrong_tries: wrong_tries_of(part),
+            last_point: last_point_of(part),
+            last_grant: number_at(part, layout::CREDENTIAL_STATE_LAST_GRANT),
+        }
+    }
+
+    #[tactic(auto, unfolding(octets::specs::Octets::field, model::specs::Site::reference, model::specs::State::credential_state_of))]
+    fn missing() -> CredentialState {
+        CredentialState {
+            uses: 0,
+            days: 0,
+            last_use: 0,
+            zone: ZoneId(NONE),
+            entered: 0,
+            last_event: 0,
+            disable: 0,
+            wrong_tries: 0,
+            last_point: PointId(NONE),
+            last_grant: 0,
+        }
     }
 }
 
@@ -132,76 +149,65 @@ pub fn fresh_credential(uses: u16, days: u16, disable: u8) -> CredentialState
     }
 }
 
-// ── written
+// ── as bytes
 
-// The state record of a rule or a factor; in the others, what no field fills.
-pub fn write_zeros(part: &mut [u8])
-    requires { length part.old ≡ 32 }
-    ensures { part.new ≡ zeros 32 }
-{
-    let mut i = 0;
-    while i < RECORD_SIZE {
-        part[i] = 0;
-        i += 1;
+// A zone's count.
+impl ToRecord for u32 {
+    ghost record_of = { zone_bytes };
+
+    #[tactic(auto, unfolding(octets::specs::Octets::put, octets::specs::Octets::digits, model::specs::State::zone_bytes))]
+    fn to_record(self) -> Record {
+        let mut part = [0; RECORD_SIZE];
+        self.put(&mut part, layout::ZONE_STATE_COUNT);
+        part
     }
 }
 
-// The state record of a zone.
-pub fn write_count(part: &mut [u8], n: u32)
-    requires { length part.old ≡ 32 }
-    ensures { part.new ≡ zone_bytes n }
-{
-    write_zeros(part);
-    octets::put_u32(part, layout::ZONE_STATE_COUNT, n);
+impl ToRecord for PointState {
+    ghost record_of = { point_bytes };
+
+    #[tactic(auto, unfolding(octets::specs::Octets::put, octets::specs::Octets::digits, model::specs::State::point_bytes))]
+    fn to_record(self) -> Record {
+        let mut part = [0; RECORD_SIZE];
+        self.tag.put(&mut part, layout::POINT_STATE_TAG);
+        self.failures.put(&mut part, layout::POINT_STATE_FAILURES);
+        u8::from(self.locked).put(&mut part, layout::POINT_STATE_LOCKED);
+        self.lock_time.put(&mut part, layout::POINT_STATE_LOCK_TIME);
+        self.first_failure
+            .put(&mut part, layout::POINT_STATE_FIRST_FAILURE);
+        self.waiting_credential
+            .0
+            .put(&mut part, layout::POINT_STATE_WAITING_CREDENTIAL);
+        self.waiting_since
+            .put(&mut part, layout::POINT_STATE_WAITING_SINCE);
+        part
+    }
 }
 
-pub fn write_point(part: &mut [u8], p: PointState)
-    requires { length part.old ≡ 32 }
-    ensures { part.new ≡ point_bytes p }
-{
-    write_zeros(part);
-    octets::put_u32(part, layout::POINT_STATE_TAG, p.tag);
-    octets::put_u8(part, layout::POINT_STATE_FAILURES, p.failures);
-    octets::put_u8(part, layout::POINT_STATE_LOCKED, byte_of(p.locked));
-    octets::put_u32(part, layout::POINT_STATE_LOCK_TIME, p.lock_time);
-    octets::put_u32(part, layout::POINT_STATE_FIRST_FAILURE, p.first_failure);
-    octets::put_u32(
-        part,
-        layout::POINT_STATE_WAITING_CREDENTIAL,
-        p.waiting_credential.0,
-    );
-    octets::put_u32(part, layout::POINT_STATE_WAITING_SINCE, p.waiting_since);
-}
+impl ToRecord for CredentialState {
+    ghost record_of = { credential_bytes };
 
-// What is left of a credential's uses and days.
-pub fn write_remaining(part: &mut [u8], uses: u16, days: u16)
-    requires { length part.old ≡ 32 }
-    ensures { part.new ≡ put 2 2 days (put 0 2 uses part.old) }
-{
-    octets::put_u16(part, layout::CREDENTIAL_STATE_USES, uses);
-    octets::put_u16(part, layout::CREDENTIAL_STATE_DAYS, days);
-}
-
-// A credential's disable and the wrong tries that may set it.
-pub fn write_disable(part: &mut [u8], disable: u8, wrong_tries: u8)
-    requires { length part.old ≡ 32 }
-    ensures { part.new ≡ put 19 1 wrong_tries (put 18 1 disable part.old) }
-{
-    octets::put_u8(part, layout::CREDENTIAL_STATE_DISABLE, disable);
-    octets::put_u8(part, layout::CREDENTIAL_STATE_WRONG_TRIES, wrong_tries);
-}
-
-pub fn write_credential(part: &mut [u8], c: CredentialState)
-    requires { length part.old ≡ 32 }
-    ensures { part.new ≡ credential_bytes c }
-{
-    write_zeros(part);
-    write_remaining(part, c.uses, c.days);
-    octets::put_u32(part, layout::CREDENTIAL_STATE_LAST_USE, c.last_use);
-    octets::put_u32(part, layout::CREDENTIAL_STATE_ZONE, c.zone.0);
-    octets::put_u32(part, layout::CREDENTIAL_STATE_ENTERED, c.entered);
-    octets::put_u16(part, layout::CREDENTIAL_STATE_LAST_EVENT, c.last_event);
-    write_disable(part, c.disable, c.wrong_tries);
-    octets::put_u32(part, layout::CREDENTIAL_STATE_LAST_POINT, c.last_point.0);
-    octets::put_u32(part, layout::CREDENTIAL_STATE_LAST_GRANT, c.last_grant);
+    #[tactic(auto, unfolding(octets::specs::Octets::put, octets::specs::Octets::digits, model::specs::State::credential_bytes))]
+    fn to_record(self) -> Record {
+        let mut part = [0; RECORD_SIZE];
+        self.uses.put(&mut part, layout::CREDENTIAL_STATE_USES);
+        self.days.put(&mut part, layout::CREDENTIAL_STATE_DAYS);
+        self.last_use
+            .put(&mut part, layout::CREDENTIAL_STATE_LAST_USE);
+        self.zone.0.put(&mut part, layout::CREDENTIAL_STATE_ZONE);
+        self.entered
+            .put(&mut part, layout::CREDENTIAL_STATE_ENTERED);
+        self.last_event
+            .put(&mut part, layout::CREDENTIAL_STATE_LAST_EVENT);
+        self.disable
+            .put(&mut part, layout::CREDENTIAL_STATE_DISABLE);
+        self.wrong_tries
+            .put(&mut part, layout::CREDENTIAL_STATE_WRONG_TRIES);
+        self.last_point
+            .0
+            .put(&mut part, layout::CREDENTIAL_STATE_LAST_POINT);
+        self.last_grant
+            .put(&mut part, layout::CREDENTIAL_STATE_LAST_GRANT);
+        part
+    }
 }
