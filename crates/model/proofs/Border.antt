@@ -1,17 +1,16 @@
 -- The border of a part: the state records that an entry writes are all on the side of the entry's object.
 use Rattle.std.specs.Prelude.{if◌then◌else◌, Option, Some, None}
-use Rattle.std.specs.Option.{IfSome}
+use Rattle.std.specs.Option.{IfSome, unwrap_or, option_or}
 use Prim.Native.Nat.{ℕ}
 use mathlib.Core.Path.{◌≡◌, refl, sym, ◌∙◌, ap}
 use mathlib.Core.List.{List, [], ◌∷◌}
 use mathlib.Core.Bool.{Bool, true, false, not, ◌&&◌, ◌||◌, and-false, or-true, beq}
 use lib.Dec.{eqb, ltb}
-use borrow.Author.Tests.{not-true}
 use Rattle.model.specs.Words.{all, missing}
 use Rattle.model.specs.Numbers as n
 use Rattle.model.specs.Numbers.{NONE}
 use Rattle.model.specs.Site.{credential_id, kind, instance, point_of, credential_of, is_at, find_in}
-use Rattle.model.specs.State.{Pair, Panel, sites, find, store, write, count, point_state_of, credential_state_of, fresh_point}
+use Rattle.model.specs.State.{Pair, Panel, sites, find, store, write, count, point_state_of, credential_state_of}
 use Rattle.model.specs.Entry.{operation_of, object_kind, in_form}
 use Rattle.model.specs.Checks.{relinquished, still_locked, waiting, overdue, confirming, factor_for, credential_read, authentication_of, passback_violated, event_of}
 use Rattle.model.specs.Effects.{named, is_failure, failures_before, is_first_failure, failures_with, locks_out, point_after, counts, count_after, soft_passback, credential_marks, marks, answer_with, outcome_with, outcome_of}
@@ -57,14 +56,14 @@ stopped_event v e = if still_locked v e then n.denied_lockout else n.denied_auth
 -- That it comes to.
 pub stopped_event_law : (v : Situation) (rules : Verdict) (e : Entry) → waiting v ≡ false → stopped v e ≡ true → event_of v rules e ≡ stopped_event v e
 unfolding event_of authentication_of overdue
-stopped_event_law v rules e w h = rw w (go (still_locked v e) (eqb e.argument n.format_error) _ h)
+stopped_event_law v rules e w h = rw w (go (still_locked v e) (eqb e.argument n.format_error) _ _ h)
   where
-    go : (a b : Bool) (next : ℕ) → a || b ≡ true →
-        (if a then n.denied_lockout else if b then n.denied_authentication_factor_error else next)
+    go : (a b : Bool) (o next : Option ℕ) → a || b ≡ true →
+        unwrap_or (option_or (if a then Some n.denied_lockout else if b then Some n.denied_authentication_factor_error else o) next) n.granted
         ≡ (if a then n.denied_lockout else n.denied_authentication_factor_error)
-    go true b next h = refl
-    go false true next h = refl
-    go false false next h = cc
+    go true b o next h = refl
+    go false true o next h = refl
+    go false false o next h = cc
 
 -- The same situation with nobody's card.
 unfoldable pub nobody : Situation → Situation
@@ -76,8 +75,7 @@ nobody v =
       count_to = v.count_to;
       zone_from = v.zone_from;
       count_from = v.count_from;
-      matched = false;
-      factor_disable = 0;
+      factor_disable = None;
       number = credential_id NONE;
       credential = credential_of [];
       credential_state = credential_state_of [];

@@ -131,7 +131,6 @@ module _ (z : ℕ) (not_none : eqb z NONE ≡ false) (ps : Panel) (t : Tally) (h
   Fits o u =
       pos (count_by z u (zone_count z ps)) ≡ standing (tallied_as o z (sites ps) e u.answer.event u.answer.refusal t)
 
-  -- Of an `if`: both of its outcomes.
   -- A refusal.
   fits_refuse : (r : ℕ) → eqb r n.not_refused ≡ false → (o : Option Operation) → Fits o (refuse r)
   unfolding Fits count_by refuse unchanged
@@ -175,7 +174,7 @@ module _ (z : ℕ) (not_none : eqb z NONE ≡ false) (ps : Panel) (t : Tally) (h
       eqb (point_of p.0).zone_to.0 z && eqb (point_of p.0).zone_from.0 z ≡ false → Fits (Some Factor) (outcome_of (situation_of ps e p) e x)
   unfolding Fits count_by outcome_of outcome_with answer_with count_after counts passed situation_of zone_to zone_from
   fits_outcome p x f d =
-      rw (f, left_if, left_if, passage_if)
+      simp (f, left_if, passage_if)
       (standing_passed (zone_count z ps) t h (eqb x n.granted && (point_of p.0).count_adjust) (eqb (point_of p.0).zone_to.0 z)
       (eqb (point_of p.0).zone_from.0 z) _ _ _ _ _ (same_zone (point_of p.0).zone_to.0) (same_zone (point_of p.0).zone_from.0) d)
 

@@ -1,5 +1,5 @@
 -- A credential's state in a panel: after a write, in the situation of a factor read, when fresh, at the end of a list.
-use Rattle.std.specs.Prelude.{if◌then◌else◌, Some, None}
+use Rattle.std.specs.Prelude.{if◌then◌else◌}
 use Prim.Native.Nat.{ℕ}
 use mathlib.Core.Path.{◌≡◌, refl, sym}
 use mathlib.Core.List.{List, map}
@@ -13,7 +13,7 @@ use Rattle.model.specs.Site.{credential_id, records, credential_of, is_at, find_
 use Rattle.model.specs.State.{Pair, Panel, sites, find, seek, zone_bytes, credential_state_of, credential_bytes, fresh_credential, fresh_record}
 use Rattle.model.specs.Entry.{entry_of}
 use Rattle.model.specs.Checks.{waiting}
-use Rattle.model.specs.Effects.{named, credential_after, outcome_with, outcome_of}
+use Rattle.model.specs.Effects.{named}
 use Rattle.model.specs.Step.{credential_at, situation_of, write_of, apply, after}
 use Rattle.model.specs.Lists.{History}
 use Rattle.model.specs.DayPasses.{state_left}
@@ -58,18 +58,6 @@ held_apply c not_none o ps g =
     )
 
 -- ── a factor read
-
--- The state that it leaves: it writes the credential that its answer names, unless the event is 0.
-pub held_read : (c : ℕ) (v : Situation) (e : Entry) (x : ℕ) (s : CredentialState) →
-    held_by c (outcome_of v e x) s ≡ (if not (eqb x n.no_event) && eqb (named v x).0 c then credential_after v e x else s)
-unfolding held_by outcome_of outcome_with
-held_read c v e x s = go (eqb x n.no_event)
-  where
-    go : (b : Bool) →
-        left_by (λ (i : CredentialId). i.0) c (if b then None else Some (record { instance = named v x; state = credential_after v e x })) s
-        ≡ (if not b && eqb (named v x).0 c then credential_after v e x else s)
-    go true = refl
-    go false = refl
 
 -- The answer grants the credential c.
 abbrev pub grants : ℕ → Answer → Bool

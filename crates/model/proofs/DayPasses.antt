@@ -31,7 +31,7 @@ use Rattle.model.proofs.RoundTrip.{event_back, credential_named_back}
 use Rattle.model.proofs.Flat.{fresh_panel}
 use Rattle.model.proofs.Runs.{object_found, object_real, object_there, worked_at, all_entries, worked_list}
 use Rattle.model.proofs.Granted.{granted_days}
-use Rattle.model.proofs.Credentials.{held, held_by, held_apply, held_read, grants, named_number, state_read, held_fresh, state_left_law}
+use Rattle.model.proofs.Credentials.{held, held_by, held_apply, grants, named_number, state_read, held_fresh, state_left_law}
 
 -- ── what an outcome leaves of days and last grant
 
@@ -60,25 +60,25 @@ module _ (c : ℕ) (not_none : eqb c NONE ≡ false) (e : Entry) where
   leaves_event : (v : Situation) (s : CredentialState) (x : ℕ) → (eqb (named v x).0 c ≡ true → v.credential_state ≡ s) →
       (eqb (named v x).0 c ≡ true → eqb x n.granted ≡ true → (eqb e.time NEVER ≡ false) × (eqb s.days 0 ≡ false)) →
       Leaves c e s (outcome_of v e x)
-  unfolding outcome_of outcome_with answer_with
-  leaves_event v s x same_state known = go (eqb (named v x).0 c) refl (eqb x n.granted) refl (eqb x n.no_event) refl
+  unfolding held_by outcome_of outcome_with answer_with
+  leaves_event v s x same_state known = go (eqb x n.no_event) refl (eqb (named v x).0 c) refl (eqb x n.granted) refl
     where
-      go : (b : Bool) → eqb (named v x).0 c ≡ b → (d : Bool) → eqb x n.granted ≡ d → (f : Bool) → eqb x n.no_event ≡ f → Leaves c e s (outcome_of v e x)
-      go false p d q f r = record { days = simp (held_read, p, and-false); last = simp (held_read, p, and-false); known = λ g. absurd (false≢true (simp (p, and-false) at g)) }
-      go true p true q true r = absurd (let y = eqb-true x 1 q in let z = eqb-true x 0 r in omega arith)
-      go true p true q false r =
+      go : (f : Bool) → eqb x n.no_event ≡ f → (b : Bool) → eqb (named v x).0 c ≡ b → (d : Bool) → eqb x n.granted ≡ d → Leaves c e s (outcome_of v e x)
+      go true r b p d q = leaves_none c e s (outcome_of v e x) (rw r) (rw (eqb-true x 0 r))
+      go false r false p d q =
+          record { days = simp (r, p, and-false); last = simp (r, p, and-false); known = λ g. absurd (false≢true (simp (p, and-false) at g)) }
+      go false r true p true q =
           let k = same_state p in
           record {
-            days = unfold credential_after days_after loses_day takes_day in rw (held_read, p, q, r, k);
-            last = unfold credential_after in rw (held_read, p, q, r);
+            days = unfold credential_after days_after loses_day takes_day in rw (r, p, q, k);
+            last = unfold credential_after in rw (r, p, q);
             known = λ g. known p q;
           }
-      go true p false q true r = record { days = rw (held_read, p, q, r); last = rw (held_read, p, q, r); known = λ g. absurd (false≢true (rw q at g)) }
-      go true p false q false r =
+      go false r true p false q =
           let k = same_state p in
           record {
-            days = unfold credential_after days_after loses_day in rw (held_read, p, q, r, k);
-            last = unfold credential_after in rw (held_read, p, q, r, k);
+            days = unfold credential_after days_after loses_day in rw (r, p, q, k);
+            last = unfold credential_after in rw (r, p, q, k);
             known = λ g. absurd (false≢true (rw q at g));
           }
 

@@ -1,5 +1,6 @@
 -- A grant is earned: what the order of checks passed where it comes to event 1.
-use Rattle.std.specs.Prelude.{if◌then◌else◌, Option, Some, None}
+use Rattle.std.specs.Prelude.{if◌then◌else◌, Option, Some, None, is_none}
+use Rattle.std.specs.Option.{unwrap_or, option_or}
 use Prim.Native.Nat.{ℕ, ◌≤◌, ◌<◌}
 use native.Mathlib.Omega.{arith}
 use mathlib.Core.Path.{◌≡◌, refl, sym, ◌∙◌, ap}
@@ -13,12 +14,12 @@ use Rattle.octets.proofs.Laws.{same_refl}
 use Rattle.model.specs.Words.{any, all, missing}
 use Rattle.model.specs.Numbers as n
 use Rattle.model.specs.Numbers.{NONE}
-use Rattle.model.specs.Site.{point_id, credential_id, records, kind, instance, enabled, negative, role, point_of, is_at, find_in}
+use Rattle.model.specs.Site.{point_id, credential_id, records, kind, instance, enabled, negative, role, factor_disable, point_of, is_at, find_in}
 use Rattle.model.specs.State.{Pair, Panel, sites, find, point_state_of, count, record_well, panel, well_formed}
 use Rattle.model.specs.Entry.{entry_of, entries, operation_of, object_kind}
-use Rattle.model.specs.Checks.{still_locked, waiting, overdue, presents, identifying, confirming, factor_for, credential_read, disabled_factor, first_of_two, authentication_of, authentication, inactive, validity_of, validity, of_rights, enabled_rule, location_fits, time_fits, verdict, passback_violated, at_lower_limit, at_upper_limit, authorization_of, authorization, passage, permission, entitlement, event_of}
+use Rattle.model.specs.Checks.{still_locked, waiting, overdue, presents, identifying, confirming, factor_for, credential_read, disabled_factor, disabled_event, first_of_two, authentication_of, authentication, inactive, validity_of, validity, of_rights, enabled_rule, location_fits, time_fits, verdict, passback_violated, into_zone, at_lower_limit, at_upper_limit, authorization_of, authorization, passage, permission, entitlement, event_of}
 use Rattle.model.specs.Effects.{named, answer_with, outcome_with, outcome_of}
-use Rattle.model.specs.Step.{no_answer, zone_to, unchanged, refuse, factor_read, number_read, situation_of, rules_at, factor_outcome, count_outcome, adjusted, adjust_outcome, disable_outcome, locks, service_outcome, worked_outcome, entry_outcome, after, credential_at}
+use Rattle.model.specs.Step.{no_answer, zone_to, unchanged, refuse, factor_read, disable_of, number_read, situation_of, rules_at, factor_outcome, count_outcome, adjusted, adjust_outcome, disable_outcome, locks, service_outcome, worked_outcome, entry_outcome, after, credential_at}
 use Rattle.model.specs.Earned.{FittingRule, forbidden, Authorized, EarnedAt, Earned}
 use Rattle.model.specs.Calls.{fresh_returned}
 use Rattle.model.specs.Lists.{run_on, first_of, event_in, credential_in}
@@ -41,54 +42,54 @@ use Rattle.model.specs.declared.Operation.TheVariants.{Factor, SetCount, AdjustC
 
 -- ── a chain that comes to 1 passed each check whose event is not 1
 
-passed : (c : Bool) (x y : ℕ) → (x ≡ 1 → ⊥) → (if c then x else y) ≡ 1 → (c ≡ false) × (y ≡ 1)
-passed true x y not-x h = absurd (not-x h)
-passed false x y not-x h = (refl, h)
+-- The checks come to event 1: they give it, or they give none.
+abbrev Passes : Option ℕ → Type 0
+Passes o = unwrap_or o 1 ≡ 1
 
-either : (c : Bool) (x y : ℕ) → (x ≡ 1 → ⊥) → (y ≡ 1 → ⊥) → (if c then x else y) ≡ 1 → ⊥
-either true x y not-x not-y h = not-x h
-either false x y not-x not-y h = not-y h
+passed : (c : Bool) (x : ℕ) (o next : Option ℕ) → eqb x 1 ≡ false → Passes (option_or (if c then Some x else o) next) →
+    (c ≡ false) × Passes (option_or o next)
+passed true x o next n h = absurd (eqb-false x 1 n h)
+passed false x o next n h = (refl, h)
 
-unless : (c : Bool) (x y : ℕ) → c ≡ false → (if c then x else y) ≡ 1 → y ≡ 1
-unless true x y f h = cc
-unless false x y f h = h
+-- Either of two events other than 1.
+other : (c : Bool) (x y : ℕ) → eqb x 1 ≡ false → eqb y 1 ≡ false → eqb (if c then x else y) 1 ≡ false
+other = if_holds (λ x. eqb x 1 ≡ false)
 
 -- No disabled factor is granted.
-disabled_factor_law : (d : ℕ) → disabled_factor d ≡ 1 → ⊥
+disabled_factor_law : (d : ℕ) → eqb (disabled_factor d) 1 ≡ false
 unfolding disabled_factor
 disabled_factor_law d =
-    either (eqb d 1) 147 _ (λ h. omega arith)
-    (either (eqb d 2) 143 _ (λ h. omega arith)
-    (either (eqb d 3) 144 _ (λ h. omega arith) (either (eqb d 4) 145 146 (λ h. omega arith) (λ h. omega arith))))
+    other (eqb d 1) 147 _ refl (other (eqb d 2) 143 _ refl (other (eqb d 3) 144 _ refl (other (eqb d 4) 145 146 refl refl)))
+
+-- A factor matched, and it is not disabled.
+enabled_factor : (d : Option ℕ) (x : ℕ) (o next : Option ℕ) → eqb x 1 ≡ false →
+    Passes (option_or (if is_none d then Some x else option_or (disabled_event d) o) next) → (d ≡ Some 0) × Passes (option_or o next)
+enabled_factor None x o next n h = absurd (eqb-false x 1 n h)
+enabled_factor (Some d) x o next n h = go (eqb d 0) refl h
+  where
+    go : (c : Bool) → eqb d 0 ≡ c → Passes (option_or (option_or (if c then None else Some (disabled_factor d)) o) next) →
+        (Some d ≡ Some 0) × Passes (option_or o next)
+    go true z h = (ap Some (eqb-true d 0 z), h)
+    go false z h = absurd (eqb-false (disabled_factor d) 1 (disabled_factor_law d) h)
 
 record Authenticated (v : Situation) (e : Entry) : Type 0 where
   not_locked : still_locked v e ≡ false
   in_time : overdue v e ≡ false
   no_error : eqb e.argument 1 ≡ false
-  matched : v.matched ≡ true
-  factor_enabled : v.factor_disable ≡ 0
+  factor_enabled : v.factor_disable ≡ Some 0
   not_first : first_of_two v ≡ false
 
 -- Steps 1 to 4.
-authenticated : (v : Situation) (e : Entry) (next : ℕ) → authentication (authentication_of v e) next ≡ 1 → Authenticated v e × (next ≡ 1)
+authenticated : (v : Situation) (e : Entry) (next : Option ℕ) → Passes (option_or (authentication (authentication_of v e)) next) →
+    Authenticated v e × Passes next
 unfolding authentication_of
 authenticated v e next h =
-    let a = passed (still_locked v e) 161 _ (λ z. omega arith) h in
-    let b = passed (overdue v e) 131 _ (λ z. omega arith) a.1 in
-    let c = passed (eqb e.argument 1) 148 _ (λ z. omega arith) b.1 in
-    let d = passed (not v.matched) _ _ (either (waiting v) 132 129 (λ z. omega arith) (λ z. omega arith)) c.1 in
-    let f = passed (not (eqb v.factor_disable 0)) (disabled_factor v.factor_disable) _ (disabled_factor_law v.factor_disable) d.1 in
-    let g = passed (first_of_two v) 0 _ (λ z. omega arith) f.1 in (
-      record {
-        not_locked = a.0;
-        in_time = b.0;
-        no_error = c.0;
-        matched = not-false v.matched d.0;
-        factor_enabled = eqb-true v.factor_disable 0 (not-false (eqb v.factor_disable 0) f.0);
-        not_first = g.0;
-      },
-      g.1,
-    )
+    let a = passed (still_locked v e) 161 _ next refl h in
+    let b = passed (overdue v e) 131 _ next refl a.1 in
+    let c = passed (eqb e.argument 1) 148 _ next refl b.1 in
+    let d = enabled_factor v.factor_disable _ _ next (other (waiting v) 132 129 refl refl) c.1 in
+    let f = passed (first_of_two v) 0 None next refl d.1 in
+    (record { not_locked = a.0; in_time = b.0; no_error = c.0; factor_enabled = d.0; not_first = f.0 }, f.1)
 
 record Valid (v : Situation) (e : Entry) : Type 0 where
   active : v.credential.activation ≤ e.time
@@ -101,17 +102,17 @@ record Valid (v : Situation) (e : Entry) : Type 0 where
   not_absent : inactive v.credential_state.last_use v.credential.absentee_days e.time ≡ false
 
 -- Step 5.
-valid : (v : Situation) (e : Entry) (next : ℕ) → validity (validity_of v e) next ≡ 1 → Valid v e × (next ≡ 1)
+valid : (v : Situation) (e : Entry) (next : Option ℕ) → Passes (option_or (validity (validity_of v e)) next) → Valid v e × Passes next
 unfolding validity_of
 valid v e next h =
-    let a = passed (ltb e.time v.credential.activation) 151 _ (λ z. omega arith) h in
-    let b = passed (ltb v.credential.expiry e.time) 152 _ (λ z. omega arith) a.1 in
-    let c = passed (eqb v.credential_state.disable 1) 158 _ (λ z. omega arith) b.1 in
-    let d = passed (eqb v.credential_state.disable 2) 153 _ (λ z. omega arith) c.1 in
-    let f = passed (eqb v.credential_state.disable 3) 154 _ (λ z. omega arith) d.1 in
-    let g = passed (eqb v.credential_state.days 0) 155 _ (λ z. omega arith) f.1 in
-    let i = passed (eqb v.credential_state.uses 0) 156 _ (λ z. omega arith) g.1 in
-    let j = passed (inactive v.credential_state.last_use v.credential.absentee_days e.time) 157 _ (λ z. omega arith) i.1 in (
+    let a = passed (ltb e.time v.credential.activation) 151 _ next refl h in
+    let b = passed (ltb v.credential.expiry e.time) 152 _ next refl a.1 in
+    let c = passed (eqb v.credential_state.disable 1) 158 _ next refl b.1 in
+    let d = passed (eqb v.credential_state.disable 2) 153 _ next refl c.1 in
+    let f = passed (eqb v.credential_state.disable 3) 154 _ next refl d.1 in
+    let g = passed (eqb v.credential_state.days 0) 155 _ next refl f.1 in
+    let i = passed (eqb v.credential_state.uses 0) 156 _ next refl g.1 in
+    let j = passed (inactive v.credential_state.last_use v.credential.absentee_days e.time) 157 _ next refl i.1 in (
       record {
         active = ltb-false e.time v.credential.activation a.0;
         unexpired = ltb-false v.credential.expiry e.time b.0;
@@ -126,17 +127,17 @@ valid v e next h =
     )
 
 -- A record of a list that passes a test.
-record Some (q : List ℕ → Bool) (ss : List (List ℕ)) : Type 0 where
+record Witness (q : List ℕ → Bool) (ss : List (List ℕ)) : Type 0 where
   one : List ℕ
   among : any (same one) ss ≡ true
   passes : q one ≡ true
 
 -- Where any does.
-some : (q : List ℕ → Bool) (ss : List (List ℕ)) → any q ss ≡ true → Some q ss
+some : (q : List ℕ → Bool) (ss : List (List ℕ)) → any q ss ≡ true → Witness q ss
 some q [] h = record { one = []; among = h; passes = cc }
 some q (s ∷ ss) h = go (q s) refl h (some q ss)
   where
-    go : (c : Bool) → q s ≡ c → c || any q ss ≡ true → (any q ss ≡ true → Some q ss) → Some q (s ∷ ss)
+    go : (c : Bool) → q s ≡ c → c || any q ss ≡ true → (any q ss ≡ true → Witness q ss) → Witness q (s ∷ ss)
     go true p h later = record { one = s; among = rw (same_refl s); passes = p }
     go false p h later =
         let x = later h in
@@ -175,18 +176,18 @@ module _ (v : Situation) (ss : List (List ℕ)) (e : Entry) where
   negative_rule h = h
 
 -- Steps 7 to 10, and what is next.
-authorized : (v : Situation) (ss : List (List ℕ)) (e : Entry) (next : ℕ) → authorization (authorization_of v (said v ss e) e) next ≡ 1 →
-    Authorized v ss e × (next ≡ 1)
+authorized : (v : Situation) (ss : List (List ℕ)) (e : Entry) (next : Option ℕ) →
+    Passes (option_or (authorization (authorization_of v (said v ss e) e)) next) → Authorized v ss e × Passes next
 unfolding authorization_of
 authorized v ss e next h =
     let rules = said v ss e in
-    let a = passed (eqb v.point.mode 2) 128 _ (λ z. omega arith) h in
-    let b = passed (ltb v.credential.threat_authority v.point.threat_level) 137 _ (λ z. omega arith) a.1 in
-    let c = passed (eqb v.point.mode 0 && rules.negative_fits) 135 _ (λ z. omega arith) b.1 in
-    let d = passed (eqb v.point.mode 0 && not rules.positive_fits) _ _ (either rules.positive_located 136 _ (λ z. omega arith) (either (not (eqb v.point.zone_to.0 NONE)) 133 134 (λ z. omega arith) (λ z. omega arith))) c.1 in
-    let f = passed (passback_violated v e && eqb v.zone_to.passback 1) 138 _ (λ z. omega arith) d.1 in
-    let g = passed (at_lower_limit v) 141 _ (λ z. omega arith) f.1 in
-    let i = passed (at_upper_limit v) 142 _ (λ z. omega arith) g.1 in (
+    let a = passed (eqb v.point.mode 2) 128 _ next refl h in
+    let b = passed (ltb v.credential.threat_authority v.point.threat_level) 137 _ next refl a.1 in
+    let c = passed (eqb v.point.mode 0 && rules.negative_fits) 135 _ next refl b.1 in
+    let d = passed (eqb v.point.mode 0 && not rules.positive_fits) _ _ next (other rules.positive_located 136 _ refl (other (into_zone v) 133 134 refl refl)) c.1 in
+    let f = passed (passback_violated v e && eqb v.zone_to.passback 1) 138 _ next refl d.1 in
+    let g = passed (at_lower_limit v) 141 _ next refl f.1 in
+    let i = passed (at_upper_limit v) 142 _ next refl g.1 in (
       record {
         not_deny_all = a.0;
         authority = ltb-false v.credential.threat_authority v.point.threat_level b.0;
@@ -200,9 +201,13 @@ authorized v ss e next h =
     )
 
 -- Step 11.
-counted : (v : Situation) → passage v 1 ≡ 1 → v.point.count_adjust && v.zone_to.counting && eqb v.count_to n.largest_count ≡ false
+counted : (v : Situation) → Passes (passage v) → v.point.count_adjust && v.zone_to.counting && eqb v.count_to n.largest_count ≡ false
 unfolding passage
-counted v h = (passed (v.point.count_adjust && v.zone_to.counting && eqb v.count_to n.largest_count) 164 1 (λ z. omega arith) h).0
+counted v = go (v.point.count_adjust && v.zone_to.counting && eqb v.count_to n.largest_count)
+  where
+    go : (c : Bool) → Passes (if c then Some 164 else None) → c ≡ false
+    go true h = absurd (omega arith)
+    go false h = refl
 
 -- All of the order of checks; master exemption skips steps 7 to 10.
 record Passed (v : Situation) (ss : List (List ℕ)) (e : Entry) : Type 0 where
@@ -212,14 +217,15 @@ record Passed (v : Situation) (ss : List (List ℕ)) (e : Entry) : Type 0 where
   is_countable : v.point.count_adjust && v.zone_to.counting && eqb v.count_to n.largest_count ≡ false
 
 -- Steps 6 to 11.
-permitted : (v : Situation) (ss : List (List ℕ)) (e : Entry) → permission v (said v ss e) e 1 ≡ 1 →
-    (v.credential.master ≡ false → Authorized v ss e) × (passage v 1 ≡ 1)
+permitted : (v : Situation) (ss : List (List ℕ)) (e : Entry) → Passes (permission v (said v ss e) e) →
+    (v.credential.master ≡ false → Authorized v ss e) × Passes (passage v)
 unfolding permission
-permitted v ss e h = ((λ m. (authorized v ss e (passage v 1) (unless v.credential.master (passage v 1) _ m h)).0), go v.credential.master h)
+permitted v ss e = go v.credential.master
   where
-    go : (c : Bool) → (if c then passage v 1 else authorization (authorization_of v (said v ss e) e) (passage v 1)) ≡ 1 → passage v 1 ≡ 1
-    go true h = h
-    go false h = (authorized v ss e (passage v 1) h).1
+    go : (c : Bool) → Passes (if c then passage v else option_or (authorization (authorization_of v (said v ss e) e)) (passage v)) →
+        (c ≡ false → Authorized v ss e) × Passes (passage v)
+    go true h = ((λ m. cc), h)
+    go false h = let a = authorized v ss e (passage v) h in ((λ m. a.0), a.1)
 
 passed_all : (v : Situation) (ss : List (List ℕ)) (e : Entry) → event_of v (said v ss e) e ≡ 1 → Passed v ss e
 unfolding event_of entitlement
@@ -313,6 +319,14 @@ no_disable d l a b c =
     let w = eqb-false d 3 c in
     omega arith
 
+-- The factor that was read is there, and not disabled.
+found_enabled : (f : List ℕ) → disable_of f ≡ Some 0 → (missing f ≡ false) × (factor_disable f ≡ 0)
+found_enabled f = go (missing f)
+  where
+    go : (c : Bool) → (if c then None else Some (factor_disable f)) ≡ Some 0 → (c ≡ false) × (factor_disable f ≡ 0)
+    go true h = cc
+    go false h = (refl, cc)
+
 -- The situation of a granted entry, at the point's records p. The credential's disable is in range and its wrong tries are below its most in a
 -- well-formed state.
 granted_situation : (ps : Panel) (e : Entry) (p : Pair) → (point_of p.0).out_of_service ≡ false →
@@ -322,7 +336,8 @@ unfolding situation_of factor_read number_read rules_at said waiting
 granted_situation ps e p s d h =
     let a = passed_all (situation_of ps e p) (sites ps) e h in
     let c = a.is_valid in
-    let m = matched (point_state_of p.1).waiting_credential e (sites ps) (not-true (missing (factor_read ps e p)) a.authentic.matched) in
+    let f = found_enabled (factor_read ps e p) a.authentic.factor_enabled in
+    let m = matched (point_state_of p.1).waiting_credential e (sites ps) f.0 in
     record {
       in_service = s;
       not_locked = a.authentic.not_locked;
@@ -330,7 +345,7 @@ granted_situation ps e p s d h =
       in_site = m.in_site;
       matched = m.passes;
       of_credential = m.of_credential;
-      factor_enabled = a.authentic.factor_enabled;
+      factor_enabled = f.1;
       confirmed = confirmed (situation_of ps e p) (factor_read ps e p) a.authentic.not_first;
       in_time = a.authentic.in_time;
       active = c.active;
@@ -407,7 +422,8 @@ granting_worked (Some SetCount) ps e x = λ h. absurd (omega arith)
 granting_worked (Some AdjustCount) ps e x =
     if_holds (Granting (Some AdjustCount) ps e x) (ltb _ (adjusted _ e.amount)) (refuse _) (count_outcome e _) (granting_refuse _ (Some AdjustCount) ps e x) (λ h. absurd (omega arith))
 granting_worked (Some SetDisable) ps e x = λ h. absurd (omega arith)
-granting_worked (Some SetService) ps e x = λ h. absurd (either (locks e) 7 8 (λ z. omega arith) (λ z. omega arith) h)
+granting_worked (Some SetService) ps e x =
+    λ h. absurd (if_holds (λ n. n ≡ 1 → ⊥) (locks e) 7 8 (λ z. omega arith) (λ z. omega arith) h)
 granting_worked None ps e x = granting_refuse _ None ps e x
 
 granting_entry : (ps : Panel) (e : Entry) → Granting (operation_of e.operation) ps e (find (object_kind (operation_of e.operation)) e.instance ps) (entry_outcome ps e)

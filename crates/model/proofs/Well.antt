@@ -75,12 +75,12 @@ pub record CredentialSound (ss : List (List ℕ)) (most : ℕ) (c : CredentialSt
   pub tries : below_most c.wrong_tries most ≡ true
 
 -- The fresh state of a point is such a state.
-pub fresh_point_law : (ss : List (List ℕ)) (most : ℕ) → PointSound ss most fresh_point
+fresh_point_law : (ss : List (List ℕ)) (most : ℕ) → PointSound ss most fresh_point
 unfolding fresh_point none_or_exists
 fresh_point_law ss most = record { waits = refl; free = refl; fails = none_below most }
 
 -- The fresh state of a credential is, if its disable is in range.
-pub fresh_credential_law : (ss : List (List ℕ)) (most uses days disable : ℕ) → leb disable n.largest_disable ≡ true →
+fresh_credential_law : (ss : List (List ℕ)) (most uses days disable : ℕ) → leb disable n.largest_disable ≡ true →
     CredentialSound ss most (fresh_with uses days disable)
 unfolding fresh_with none_or_exists
 fresh_credential_law ss most uses days disable d = record { disabled = d; inside = refl; seen = refl; tries = none_below most }

@@ -13,7 +13,7 @@ use Rattle.model.specs.Numbers as n
 use Rattle.model.specs.Numbers.{NONE}
 use Rattle.model.specs.Site.{zone_id, credential_id, point_of, credential_of, is_at, find_in}
 use Rattle.model.specs.Accept.{exists, none_or_exists, names_exist}
-use Rattle.model.specs.State.{Pair, Panel, sites, find, store, write, zone_bytes, point_state_of, point_bytes, credential_state_of, credential_bytes, below_most, record_well}
+use Rattle.model.specs.State.{Pair, Panel, sites, find, store, write, zone_bytes, point_state_of, credential_state_of, below_most, record_well}
 use Rattle.model.specs.Entry.{object_kind, in_form}
 use Rattle.model.specs.Checks.{relinquished, still_locked, waiting, authentication_of, into_zone, event_of}
 use Rattle.model.specs.Effects.{named, is_failure, failures_before, failures_with, locks_out, point_after, is_wrong_try, wrong_tries_with, reaches_most, wrong_tries_after, disable_reached, zone_after, credential_after, outcome_with, outcome_of}
@@ -21,7 +21,7 @@ use Rattle.model.specs.Step.{write_of, unchanged, refuse, factor_read, number_re
 use Rattle.model.proofs.Laws.{if_holds, and_left, and_right, or_right, kind_at, find_in_sites, if_any, all_write_of, sites_write_of, sites_apply}
 use Rattle.model.proofs.Outcomes.{entry_holds}
 use Rattle.model.proofs.Credentials.{credential_read_law}
-use Rattle.model.proofs.Well.{none_fits, exists_fits, none_below, if_below, PointSound, CredentialSound, fresh_point_law, fresh_credential_law, zone_well_law, point_well_law, credential_well_law, point_found, credential_found, credential_sought, to_fits, number_fits}
+use Rattle.model.proofs.Well.{none_fits, exists_fits, none_below, if_below, PointSound, CredentialSound, zone_well_law, point_well_law, credential_well_law, point_found, credential_found, credential_sought, to_fits, number_fits}
 use Rattle.model.specs.declared.ZoneId.{ZoneId}
 use Rattle.model.specs.declared.CredentialId.{CredentialId}
 use Rattle.model.specs.declared.PointId.{PointId}

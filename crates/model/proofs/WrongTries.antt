@@ -39,7 +39,7 @@ use Rattle.model.proofs.Well.{credential_found}
 use Rattle.model.proofs.KeptWell.{Taken, state_taken}
 use Rattle.model.proofs.Outcomes.{entry_holds}
 use Rattle.model.proofs.Granted.{granted_enabled}
-use Rattle.model.proofs.Credentials.{is_credential, held, held_by, held_apply, held_read, grants, credential_read_law, named_number, state_read, held_fresh, state_left_law}
+use Rattle.model.proofs.Credentials.{is_credential, held, held_by, held_apply, grants, credential_read_law, named_number, state_read, held_fresh, state_left_law}
 
 -- ── one entry, by the fields of its answer
 
@@ -111,26 +111,26 @@ module _ (c : ℕ) (not_none : eqb c NONE ≡ false) (most : ℕ) (e : Entry) wh
       (eqb (named v x).0 c ≡ true → (v.credential_state ≡ s) × (v.credential.most_wrong_tries ≡ most)) →
       (eqb (named v x).0 c ≡ true → eqb x n.granted ≡ true → eqb s.disable n.disable_lockout ≡ false) →
       Tries most c e s (Some Factor) (outcome_of v e x)
-  unfolding outcome_of outcome_with answer_with tried_with is_wrong_try
-  tries_event v s x same enabled = go (eqb (named v x).0 c) refl (eqb x n.granted) refl (eqb x n.no_event) refl
+  unfolding held_by outcome_of outcome_with answer_with tried_with is_wrong_try
+  tries_event v s x same enabled = go (eqb x n.no_event) refl (eqb (named v x).0 c) refl (eqb x n.granted) refl
     where
       counted : Bool
       counted = not (eqb most 0) && (eqb x n.denied_authentication_factor_timeout || eqb x n.denied_incorrect_authentication_factor)
 
-      go : (b : Bool) → eqb (named v x).0 c ≡ b → (d : Bool) → eqb x n.granted ≡ d → (f : Bool) → eqb x n.no_event ≡ f → Tries most c e s (Some Factor) (outcome_of v e x)
-      go false p d q f r = record { left = simp (held_read, p, and-false); enabled = λ g. absurd (false≢true (simp (p, and-false) at g)) }
-      go true p true q true r = absurd (let y = eqb-true x 1 q in let z = eqb-true x 0 r in omega arith)
-      go true p true q false r =
+      go : (f : Bool) → eqb x n.no_event ≡ f → (b : Bool) → eqb (named v x).0 c ≡ b → (d : Bool) → eqb x n.granted ≡ d → Tries most c e s (Some Factor) (outcome_of v e x)
+      go true r b p d q =
+          let z = eqb-true x 0 r in
+          tries_none most c e s (Some Factor) (outcome_of v e x) (rw r) refl (rw z) (rw z)
+      go false r false p d q = record { left = simp (r, p, and-false); enabled = λ g. absurd (false≢true (simp (p, and-false) at g)) }
+      go false r true p true q =
           let k = same p in
-          record { left = rw (held_read, p, q, r) (after_grant v x (eqb-true x 1 q) ∙ ap (λ (t : CredentialState). tried 0 t.disable) k.0); enabled = λ g. enabled p q }
-      go true p false q true r = record { left = let z = eqb-true x 0 r in simp (held_read, z, and-false); enabled = λ g. absurd (false≢true (rw q at g)) }
-      go true p false q false r =
+          record { left = rw (r, p, q) (after_grant v x (eqb-true x 1 q) ∙ ap (λ (t : CredentialState). tried 0 t.disable) k.0); enabled = λ g. enabled p q }
+      go false r true p false q =
           let k = same p in
           record {
             left =
-                rw held_read
-                (simp (p, q, r, and-true)
-                (after_try v x counted (rw k.1) q ∙ ap₂ (λ m (t : CredentialState). if counted then tried_once m (tried_in t) else tried_in t) k.1 k.0));
+                simp (r, p, q, and-true)
+                (after_try v x counted (rw k.1) q ∙ ap₂ (λ m (t : CredentialState). if counted then tried_once m (tried_in t) else tried_in t) k.1 k.0);
             enabled = λ g. absurd (false≢true (rw q at g));
           }
 
