@@ -11,7 +11,7 @@ use lib.Dec.{eqb, ltb}
 use lib.ListN.{length, drop, get_or, drop_of_length-le, length-drop}
 use lib.Seq.{drop-cons, drop-drop, get_or-drop}
 use borrow.Author.Tests.{eqb-true, eqb-false, ltb-true, ltb-false}
-use Rattle.index.specs.Index.{most_records, bucket_of, tags_of, chain_from, chain_scale, record_of, first_from, next_in}
+use Rattle.index.specs.Index.{bucket_of, tags_of, chain_scale, record_of, first_from, next_in, ChainFrom}
 
 -- What is left from the i-th record on: that record, and what is left from the next one on; past the last, nothing.
 module _ (ss : List (List ℕ)) (i : ℕ) where
@@ -111,15 +111,15 @@ pub record Chain (b : ℕ) (ss : List (List ℕ)) (chain : ℕ) : Type 0 where
   pub here : record_of chain < length ss → bucket_of (get_or ss (record_of chain) []) ≡ b
   pub tagged : chain / chain_scale ≡ tags_of b (drop (record_of chain) ss)
 
--- The chains of few records, from the m-th on. The first record of each is the next of its bucket.
-module _ (ss : List (List ℕ)) (few : length ss ≤ most_records) (b m chain : ℕ) (l : m ≤ length ss) (e : chain ≡ chain_from b m ss) where
+-- The first record of a bucket's chain is the next of the bucket.
+module _ {b m : ℕ} {ss : List (List ℕ)} {chain : ℕ} (x : ChainFrom b m ss chain) (l : m ≤ length ss) where
   pub chain_record : record_of chain ≡ next_in bucket_of b m ss
-  chain_record = omega (arith, few, next_high bucket_of b m ss l)
+  chain_record = omega (arith, x.is, x.few, next_high bucket_of b m ss l)
 
   pub chain_at : Chain b ss chain
   unfolding tags_of
   chain_at =
-      let t : chain / chain_scale ≡ tags_of b (drop m ss) = omega (arith, few, next_high bucket_of b m ss l) in
+      let t : chain / chain_scale ≡ tags_of b (drop m ss) = omega (arith, x.is, x.few, next_high bucket_of b m ss l) in
       record { here = rw chain_record (next_here bucket_of b m ss); tagged = t ∙ rw chain_record (skip bucket_of (λ j. tags_of b) b other m ss) }
     where
       other : (j : ℕ) (s : List ℕ) (ts : List (List ℕ)) → eqb (bucket_of s) b ≡ false → tags_of b (s ∷ ts) ≡ tags_of b ts

@@ -105,6 +105,11 @@ chain_from b k ss = next_in bucket_of b k ss + tags_of b (drop k ss) * chain_sca
 abbrev pub record_of : ℕ → ℕ
 record_of chain = chain % chain_scale
 
+-- The chain of a bucket from the k-th record on. The records are few, so that each one's number is below the scale.
+pub record ChainFrom (b k : ℕ) (ss : List (List ℕ)) (chain : ℕ) : Type 0 where
+  pub is : chain ≡ chain_from b k ss
+  pub few : length ss ≤ most_records
+
 -- The kinds are a class each.
 abbrev pub kind_class : List ℕ → ℕ
 kind_class s = kind s % kind_classes

@@ -2,7 +2,7 @@
 ghost use Rattle.std.specs.Prelude.{◌≡◌, ℕ, List, Bool, true, [], ◌+◌, ◌%◌, ◌≤◌, ◌<◌, length, drop, get_or, position};
 ghost use Rattle.model.specs.Site as Site;
 ghost use Rattle.model.specs.Site.{records};
-ghost use Rattle.index.specs.Index.{most_records, buckets, kind_classes, kind_class, bucket_of, next_in, chain_from, Indexed, OfBucket};
+ghost use Rattle.index.specs.Index.{most_records, buckets, kind_classes, kind_class, bucket_of, next_in, ChainFrom, Indexed, OfBucket};
 ghost use Rattle.index.specs.Place.{place_from};
 
 use super::{BUCKETS, Chain, KIND_CLASSES, MOST_RECORDS, Words};
@@ -85,7 +85,7 @@ impl<'a> IndexedSite<'a> {
     // The chain of a bucket.
     pub fn head(&self, bucket: usize) -> Chain
         requires { bucket < buckets }
-        ensures { result.0 ≡ chain_from bucket 0 (records self.now) }
+        ensures { ChainFrom bucket 0 (records self.now) result.0 }
     {
         let words = self.words;
         Chain(words[MOST_RECORDS + bucket])
@@ -94,7 +94,7 @@ impl<'a> IndexedSite<'a> {
     // What follows the i-th record in the chain of its bucket.
     pub fn link(&self, i: usize) -> Chain
         requires { i < length (records self.now) }
-        ensures { result.0 ≡ chain_from (bucket_of (get_or (records self.now) i [])) (i + 1) (records self.now) }
+        ensures { ChainFrom (bucket_of (get_or (records self.now) i [])) (i + 1) (records self.now) result.0 }
     {
         let words = self.words;
         Chain(words[i])

@@ -5,4 +5,4 @@ use Rattle.index.proofs.rule_class.Goals as goal
 
 pub returns : goal.returns
 unfolding rule_class
-returns c = (?, omega arith)
+returns c = (rw (c.mixed.ensures, c.from-2.ensures, c.from.ensures), omega arith)
