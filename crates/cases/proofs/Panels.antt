@@ -3,10 +3,12 @@
 use Prim.Native.Nat.{ℕ}
 use mathlib.Core.Path.{◌≡◌, refl}
 use mathlib.Core.List.{List, [], ◌∷◌, ◌++◌, map}
-use mathlib.Core.Bool.{true, false}
+use Rattle.std.specs.Prelude.{Option, Some, None}
 use lib.ListN.{replicate}
 use Rattle.octets.specs.Octets.{put}
-use Rattle.model.specs.State.{Panel, panel, sites, state_of, find, seek, seek_zone, seek_credential, write}
+use Rattle.model.specs.State.{Panel, panel, sites, state_of, find, seek, seek_zone, seek_credential}
+use Rattle.model.specs.Step.{write_of}
+use Rattle.model.specs.declared.Write.{Write}
 use Rattle.model.proofs.Open.{definitions}
 use Rattle.cases.proofs.Records.{tables}
 use Rattle.cases.proofs.SiteCheck.{zone_at, credential_with, records_at}
@@ -30,9 +32,14 @@ pub sought :
 unfolding definitions tables put records_at five_records
 sought = refl
 
+-- A write of one byte.
+abbrev write_at : ℕ → Write ℕ (List ℕ)
+write_at i = record { instance = i; state = 9 ∷ [] }
+
 -- "Only the state records of these objects are written": the first of the kind and instance, where it is to be written, and never NONE.
 pub stored :
-    map (λ (on, i). write on 1 i (9 ∷ []) (five_records (2 ∷ []) (3 ∷ []))) ((true, 8) ∷ (false, 8) ∷ (true, 4194303) ∷ (true, 7) ∷ [])
+    map (λ (w : Option (Write ℕ (List ℕ))). write_of 1 (λ i. i) (λ b. b) w (five_records (2 ∷ []) (3 ∷ [])))
+    (Some (write_at 8) ∷ None ∷ Some (write_at 4194303) ∷ Some (write_at 7) ∷ [])
     ≡ five_records (9 ∷ []) (3 ∷ []) ∷ five_records (2 ∷ []) (3 ∷ []) ∷ five_records (2 ∷ []) (3 ∷ []) ∷ five_records (2 ∷ []) (3 ∷ []) ∷ []
 unfolding definitions tables put records_at five_records
 stored = refl

@@ -1,54 +1,119 @@
 -- Event 1 leaves room in Zone_To's count: it comes from step 12 alone, after step 11 has given 164 where a counting zone is full.
-use Rattle.std.specs.Prelude.{if◌then◌else◌}
+use Rattle.std.specs.Prelude.{if◌then◌else◌, Option, Some, None}
+use Rattle.std.specs.Option.{unwrap_or, option_or}
 use Prim.Native.Nat.{ℕ}
-use native.Mathlib.Omega.{arith}
-use mathlib.Core.Path.{◌≡◌, sym, ◌∙◌}
+use mathlib.Core.Path.{◌≡◌, refl, sym, ◌∙◌}
 use mathlib.Core.Bool.{Bool, true, false, ◌&&◌}
 use lib.Dec.{eqb}
-use borrow.Author.Tests.{eqb-true, eq-eqb}
+use borrow.Author.Tests.{eqb-true, eqb-false, eq-eqb}
 use Rattle.model.specs.Numbers as n
-use Rattle.model.specs.Checks.{validity_of, authorization_of, authorization, passage, permission, entitlement, event_of}
+use Rattle.model.specs.Checks.{disabled_factor, disabled_event, authentication_of, authentication, validity_of, validity, authorization_of, authorization, passage, permission, entitlement, event_of}
 use Rattle.model.specs.Effects.{counts}
-use Rattle.model.proofs.Laws.{and_left, and_right}
+use Rattle.model.proofs.Laws.{if_holds, and_left, and_right}
 use Rattle.model.specs.declared.Situation.{Situation}
 use Rattle.model.specs.declared.Verdict.{Verdict}
 use Rattle.model.specs.declared.Entry.{Entry}
+use Rattle.model.specs.declared.Authentication.{Authentication}
+use Rattle.model.specs.declared.Validity.{Validity}
+use Rattle.model.specs.declared.Authorization.{Authorization}
 use Rattle.conditions.specs.Room.{Room}
-use Rattle.checks.proofs.Steps.{Steps, ends, goes, validity_steps, authorization_steps, before_steps}
 
--- Steps that come to event 1 have it from what follows.
-passed : (f : ℕ → ℕ) → Steps f → (next : ℕ) → f next ≡ n.granted → next ≡ n.granted
-passed f (ends x d h) next g = let t : eqb x n.granted ≡ true = eq-eqb x n.granted (sym (h next) ∙ g) in cc
-passed f (goes h) next g = sym (h next) ∙ g
+-- ── no step gives event 1
+
+abbrev Other : ℕ → Type 0
+Other x = eqb x n.granted ≡ false
+
+-- Steps that give no event, or another than 1.
+abbrev Denies : Option ℕ → Type 0
+Denies None = Unit
+Denies (Some x) = Other x
+
+step : (c : Bool) (x : ℕ) (o : Option ℕ) → Other x → Denies o → Denies (if c then Some x else o)
+step true x o d s = d
+step false x o d s = s
+
+or_denies : (a b : Option ℕ) → Denies a → Denies b → Denies (option_or a b)
+or_denies None b d s = s
+or_denies (Some x) b d s = d
+
+disabled_factor_denies : (d : ℕ) → Other (disabled_factor d)
+unfolding disabled_factor
+disabled_factor_denies d =
+    if_holds Other (eqb d n.factor_disabled) _ _ refl
+    (if_holds Other (eqb d n.factor_lost) _ _ refl
+    (if_holds Other (eqb d n.factor_stolen) _ _ refl (if_holds Other (eqb d n.factor_damaged) _ _ refl refl)))
+
+disabled_denies : (d : Option ℕ) → Denies (disabled_event d)
+disabled_denies None = tt
+disabled_denies (Some d) = if_holds Denies (eqb d 0) None (Some (disabled_factor d)) tt (disabled_factor_denies d)
+
+authentication_denies : (k : Authentication) → Denies k.disabled → Denies (authentication k)
+authentication_denies k d =
+    step k.locked _ _ refl
+    (step k.overdue _ _ refl
+    (step k.error _ _ refl
+    (step k.unmatched _ _ (if_holds Other k.waiting _ _ refl refl) (or_denies k.disabled _ d (step k.first_of_two _ None refl tt)))))
+
+validity_denies : (k : Validity) → Denies (validity k)
+validity_denies k =
+    step k.not_yet_active _ _ refl
+    (step k.expired _ _ refl
+    (step k.disabled _ _ refl
+    (step k.manual_disable _ _ refl
+    (step k.lockout _ _ refl
+    (step k.no_days _ _ refl
+    (step k.no_uses _ _ refl
+    (step k.inactive _ None refl tt)))))))
+
+authorization_denies : (k : Authorization) → Denies (authorization k)
+authorization_denies k =
+    step k.deny_all _ _ refl
+    (step k.threat _ _ refl
+    (step k.negative _ _ refl
+    (step k.no_positive _ _ (if_holds Other k.positive_located _ _ refl (if_holds Other k.into_zone _ _ refl refl))
+    (step k.hard_passback _ _ refl
+    (step k.at_lower_limit _ _ refl
+    (step k.at_upper_limit _ None refl tt))))))
+
+-- ── what is left of steps that come to event 1
+
+none_given : (o : Option ℕ) → Denies o → unwrap_or o n.granted ≡ n.granted → o ≡ None
+none_given None d h = refl
+none_given (Some x) d h = absurd (eqb-false x n.granted d h)
+
+rest_none : (a b : Option ℕ) → option_or a b ≡ None → b ≡ None
+rest_none None b h = h
+rest_none (Some x) b h = cc
 
 module _ (v : Situation) (rules : Verdict) (e : Entry) where
-  -- Event 1 comes through step 11.
-  through_passage : (next : ℕ) → permission v rules e next ≡ n.granted → passage v next ≡ n.granted
-  unfolding permission
-  through_passage next = go v.credential.master
-    where
-      go : (master : Bool) → (if master then passage v next else authorization (authorization_of v rules e) (passage v next)) ≡ n.granted →
-          passage v next ≡ n.granted
-      go true g = g
-      go false g = passed _ (authorization_steps (authorization_of v rules e)) _ g
+  passage_denies : Denies (passage v)
+  unfolding passage
+  passage_denies = step (v.point.count_adjust && v.zone_to.counting && eqb v.count_to n.largest_count) _ None refl tt
 
-  -- After any steps before step 6, and whatever follows step 11.
-  pub room : (f : ℕ → ℕ) → Steps f → (next : ℕ) → Room v (f (permission v rules e next))
-  unfolding counts passage
-  room f s next h q =
-      let x = f (permission v rules e next) in
+  permission_denies : Denies (permission v rules e)
+  unfolding permission
+  permission_denies =
+      if_holds Denies v.credential.master (passage v) _ passage_denies (or_denies _ (passage v) (authorization_denies (authorization_of v rules e)) passage_denies)
+
+  -- Event 1 comes through step 11.
+  through_passage : permission v rules e ≡ None → passage v ≡ None
+  unfolding permission
+  through_passage = go v.credential.master
+    where
+      go : (master : Bool) → (if master then passage v else option_or (authorization (authorization_of v rules e)) (passage v)) ≡ None → passage v ≡ None
+      go true g = g
+      go false g = rest_none _ (passage v) g
+
+  pub event_room : Room v (event_of v rules e)
+  unfolding counts passage entitlement event_of authentication_of
+  event_room h q =
+      let x = event_of v rules e in
       let a = and_left (eqb x n.granted && v.point.count_adjust) v.zone_to.counting h in
       let b = and_right (eqb x n.granted && v.point.count_adjust) v.zone_to.counting h in
       let d = and_right (eqb x n.granted) v.point.count_adjust a in
-      let g = through_passage next (passed f s _ (eqb-true x n.granted (and_left (eqb x n.granted) v.point.count_adjust a))) in
-      let w : n.denied_other ≡ n.granted = rw (d, b, eq-eqb v.count_to n.largest_count q) at g in
-      omega arith
-
-  -- Steps 5 to 11, and the event of a factor read.
-  pub entitlement_room : (next : ℕ) → Room v (entitlement v rules e next)
-  unfolding entitlement
-  entitlement_room next = room _ (validity_steps (validity_of v e)) next
-
-  pub event_room : Room v (event_of v rules e)
-  unfolding entitlement event_of
-  event_room = room _ (before_steps v e) n.granted
+      let g = eqb-true x n.granted (and_left (eqb x n.granted) v.point.count_adjust a) in
+      let late = entitlement v rules e in
+      let s = or_denies _ late (authentication_denies (authentication_of v e) (disabled_denies v.factor_disable)) (or_denies _ (permission v rules e) (validity_denies (validity_of v e)) permission_denies) in
+      let p = through_passage (rest_none _ (permission v rules e) (rest_none _ late (none_given _ s g))) in
+      let w : Some n.denied_other ≡ None = rw (d, b, eq-eqb v.count_to n.largest_count q) at p in
+      cc

@@ -2,10 +2,10 @@
 ghost use Rattle.std.specs.Prelude.{◌≡◌};
 ghost use Rattle.model.specs.Checks.{at_lower_limit, at_upper_limit, authorization_of, authorization, passage, permission};
 
-use conditions::words::{choose_short, has_reached};
 use conditions::{is_into_zone, is_passback_violated};
 use model::{Authorization, Entry, Situation, Verdict, numbers};
 
+#[tactic(auto, unfolding(model::specs::Checks::at_lower_limit))]
 pub fn is_at_lower_limit(v: Situation) -> bool
     ensures { result ≡ at_lower_limit v }
 {
@@ -16,6 +16,7 @@ pub fn is_at_lower_limit(v: Situation) -> bool
         & (v.count_from <= v.zone_from.lower_limit)
 }
 
+#[tactic(auto, unfolding(model::specs::Checks::at_upper_limit))]
 pub fn is_at_upper_limit(v: Situation) -> bool
     ensures { result ≡ at_upper_limit v }
 {
@@ -23,10 +24,11 @@ pub fn is_at_upper_limit(v: Situation) -> bool
         & v.point.upper_enforced
         & v.zone_to.counting
         & (v.zone_to.upper_limit != 0)
-        & has_reached(v.count_to, v.zone_to.upper_limit)
+        & (v.zone_to.upper_limit <= v.count_to)
 }
 
 // What steps 7 to 10 find, with what the rules say.
+#[tactic(auto, unfolding(model::specs::Checks::authorization_of))]
 pub fn authorization_of(v: Situation, rules: Verdict, e: Entry) -> Authorization
     ensures { result ≡ authorization_of v rules e }
 {
@@ -43,58 +45,57 @@ pub fn authorization_of(v: Situation, rules: Verdict, e: Entry) -> Authorization
     }
 }
 
-// The event of what they find, or `next` where they give none.
-pub fn authorize(k: Authorization, next: u16) -> u16
-    ensures { result ≡ authorization k next }
+// Their event, where one of them gives one.
+pub fn authorize(k: Authorization) -> Option<u16>
+    ensures { result ≡ authorization k }
 {
     if k.deny_all {
-        return numbers::DENIED_DENY_ALL;
+        return Some(numbers::DENIED_DENY_ALL);
     }
     if k.threat {
-        return numbers::DENIED_THREAT_LEVEL;
+        return Some(numbers::DENIED_THREAT_LEVEL);
     }
     if k.negative {
-        return numbers::DENIED_NO_ACCESS_RIGHTS;
+        return Some(numbers::DENIED_NO_ACCESS_RIGHTS);
     }
     if k.no_positive {
         if k.positive_located {
-            return numbers::DENIED_OUT_OF_TIME_RANGE;
+            return Some(numbers::DENIED_OUT_OF_TIME_RANGE);
         }
         if k.into_zone {
-            return numbers::DENIED_ZONE_NO_ACCESS_RIGHTS;
+            return Some(numbers::DENIED_ZONE_NO_ACCESS_RIGHTS);
         }
-        return numbers::DENIED_POINT_NO_ACCESS_RIGHTS;
+        return Some(numbers::DENIED_POINT_NO_ACCESS_RIGHTS);
     }
     if k.hard_passback {
-        return numbers::DENIED_PASSBACK;
+        return Some(numbers::DENIED_PASSBACK);
     }
     if k.at_lower_limit {
-        return numbers::DENIED_LOWER_OCCUPANCY_LIMIT;
+        return Some(numbers::DENIED_LOWER_OCCUPANCY_LIMIT);
     }
-    if k.at_upper_limit {
-        return numbers::DENIED_UPPER_OCCUPANCY_LIMIT;
-    }
-    next
+    k.at_upper_limit
+        .then_some(numbers::DENIED_UPPER_OCCUPANCY_LIMIT)
 }
 
 // Step 11: a count that is full.
-pub fn passage_of(v: Situation, next: u16) -> u16
-    ensures { result ≡ passage v next }
+#[tactic(auto, unfolding(model::specs::Checks::passage))]
+pub fn passage_of(v: Situation) -> Option<u16>
+    ensures { result ≡ passage v }
 {
-    choose_short(
-        v.point.count_adjust & v.zone_to.counting & (v.count_to == numbers::LARGEST_COUNT),
-        numbers::DENIED_OTHER,
-        next,
-    )
+    let is_full = v.point.count_adjust
+        & v.zone_to.counting
+        & (v.count_to == numbers::LARGEST_COUNT);
+    is_full.then_some(numbers::DENIED_OTHER)
 }
 
 // Steps 6 to 11: a master exemption skips to step 11.
-pub fn permit(v: Situation, rules: Verdict, e: Entry, next: u16) -> u16
-    ensures { result ≡ permission v rules e next }
+#[tactic(auto, unfolding(model::specs::Checks::permission))]
+pub fn permit(v: Situation, rules: Verdict, e: Entry) -> Option<u16>
+    ensures { result ≡ permission v rules e }
 {
-    let last = passage_of(v, next);
+    let last = passage_of(v);
     if v.credential.master {
         return last;
     }
-    authorize(authorization_of(v, rules, e), last)
+    authorize(authorization_of(v, rules, e)).or(last)
 }

@@ -14,27 +14,27 @@ use authorization::permit;
 use model::{Entry, Situation, Verdict, numbers};
 use validity::validity_event;
 
-// No event has this number: it stands for "no step gave an event yet".
-pub const NEXT: u16 = 65535;
-
-// Steps 1 to 5: their event, or NEXT.
-pub fn before_permission(v: Situation, e: Entry) -> u16
+// Steps 1 to 5: their event, where one of them gives one.
+#[tactic(auto, unfolding(crate::specs::Moves::before_permission))]
+pub fn before_permission(v: Situation, e: Entry) -> Option<u16>
     ensures { result ≡ before_permission v e }
 {
-    authenticate(authentication_of(v, e), validity_event(v, e))
+    authenticate(authentication_of(v, e)).or_else(|| validity_event(v, e))
 }
 
 // Step 9 is reached: the rules are needed. `before` is what the steps up to 5 came to.
-pub fn asks_rules(v: Situation, before: u16) -> bool
+#[tactic(auto, unfolding(crate::specs::Moves::asks_rules))]
+pub fn asks_rules(v: Situation, before: Option<u16>) -> bool
     ensures { result ≡ asks_rules v before }
 {
     (v.point.mode == numbers::MODE_AUTHORIZE)
         & !v.credential.master
         & !(v.credential.threat_authority < v.point.threat_level)
-        & (before == NEXT)
+        & before.is_none()
 }
 
 // What stands for the rules where they are not needed.
+#[tactic(auto, unfolding(crate::specs::Moves::no_verdict))]
 pub fn no_verdict() -> Verdict
     ensures { result ≡ no_verdict }
 {
@@ -45,12 +45,12 @@ pub fn no_verdict() -> Verdict
     }
 }
 
-// The event `before`, or that of steps 6 to 12 where the steps before gave none.
-pub fn event_after(v: Situation, rules: Verdict, e: Entry, before: u16) -> u16
+// The event: that of the steps before, else that of steps 6 to 12.
+#[tactic(auto, unfolding(crate::specs::Moves::event_after))]
+pub fn event_after(v: Situation, rules: Verdict, e: Entry, before: Option<u16>) -> u16
     ensures { result ≡ event_after v rules e before }
 {
-    if before != NEXT {
-        return before;
-    }
-    permit(v, rules, e, numbers::GRANTED)
+    before
+        .or_else(|| permit(v, rules, e))
+        .unwrap_or(numbers::GRANTED)
 }

@@ -1,22 +1,22 @@
 // Step 5: the credential's dates, disable, uses and last use.
 ghost use Rattle.std.specs.Prelude.{◌≡◌};
 ghost use Rattle.model.specs.Checks.{inactive, validity_of, validity};
-ghost use Rattle.checks.specs.Moves.{validity_event};
 
-use crate::NEXT;
-use conditions::words::{elapsed, of_days, wide};
+use conditions::elapsed;
 use model::{Entry, Situation, Validity, numbers};
 
 // Used before, and longer ago than the absentee days.
+#[tactic(auto, unfolding(model::specs::Checks::inactive))]
 pub fn is_inactive(last: u32, days: u16, time: u32) -> bool
     ensures { result ≡ inactive last days time }
 {
     (last != numbers::NEVER)
         & (days != numbers::UNLIMITED)
-        & (of_days(days) < wide(elapsed(time, last)))
+        & (u64::from(days) * u64::from(numbers::SECONDS_OF_DAY) < u64::from(elapsed(time, last)))
 }
 
 // What step 5 finds.
+#[tactic(auto, unfolding(model::specs::Checks::validity_of))]
 pub fn validity_of(v: Situation, e: Entry) -> Validity
     ensures { result ≡ validity_of v e }
 {
@@ -36,40 +36,37 @@ pub fn validity_of(v: Situation, e: Entry) -> Validity
     }
 }
 
-// The event of what it finds, or `next` where it gives none.
-pub fn validate(k: Validity, next: u16) -> u16
-    ensures { result ≡ validity k next }
+// Its event, where it gives one.
+pub fn validate(k: Validity) -> Option<u16>
+    ensures { result ≡ validity k }
 {
     if k.not_yet_active {
-        return numbers::DENIED_CREDENTIAL_NOT_YET_ACTIVE;
+        return Some(numbers::DENIED_CREDENTIAL_NOT_YET_ACTIVE);
     }
     if k.expired {
-        return numbers::DENIED_CREDENTIAL_EXPIRED;
+        return Some(numbers::DENIED_CREDENTIAL_EXPIRED);
     }
     if k.disabled {
-        return numbers::DENIED_CREDENTIAL_DISABLED;
+        return Some(numbers::DENIED_CREDENTIAL_DISABLED);
     }
     if k.manual_disable {
-        return numbers::DENIED_CREDENTIAL_MANUAL_DISABLE;
+        return Some(numbers::DENIED_CREDENTIAL_MANUAL_DISABLE);
     }
     if k.lockout {
-        return numbers::DENIED_CREDENTIAL_LOCKOUT;
+        return Some(numbers::DENIED_CREDENTIAL_LOCKOUT);
     }
     if k.no_days {
-        return numbers::DENIED_CREDENTIAL_MAX_DAYS;
+        return Some(numbers::DENIED_CREDENTIAL_MAX_DAYS);
     }
     if k.no_uses {
-        return numbers::DENIED_CREDENTIAL_MAX_USES;
+        return Some(numbers::DENIED_CREDENTIAL_MAX_USES);
     }
-    if k.inactive {
-        return numbers::DENIED_CREDENTIAL_INACTIVITY;
-    }
-    next
+    k.inactive.then_some(numbers::DENIED_CREDENTIAL_INACTIVITY)
 }
 
-// Step 5 by itself, or NEXT: what comes first for an operation that reads no factor.
-pub fn validity_event(v: Situation, e: Entry) -> u16
-    ensures { result ≡ validity_event v e }
+// Step 5 by itself: what comes first for an operation that reads no factor.
+pub fn validity_event(v: Situation, e: Entry) -> Option<u16>
+    ensures { result ≡ validity (validity_of v e) }
 {
-    validate(validity_of(v, e), NEXT)
+    validate(validity_of(v, e))
 }

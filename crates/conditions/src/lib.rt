@@ -2,15 +2,21 @@
 #![tactic(auto)]
 
 ghost use Rattle.std.specs.Prelude.{◌≡◌};
+ghost use Rattle.model.specs.Checks as m;
 ghost use Rattle.model.specs.Checks.{relinquished, still_locked, waiting, into_zone, passback_violated};
 
-pub mod words; // words.rt: arithmetic, and the choice between two values
-
-use model::numbers::NONE;
+use model::numbers::{NONE, SECONDS_OF_MINUTE};
 use model::{Entry, Situation};
-use words::{elapsed, of_minutes, wide};
+
+// The time from `since` to `now`, or 0 where now is earlier.
+pub fn elapsed(now: u32, since: u32) -> u32
+    ensures { result ≡ m.elapsed now since }
+{
+    now.saturating_sub(since)
+}
 
 // Step 1 unlocks the point: a set relinquish time has passed.
+#[tactic(auto, unfolding(model::specs::Checks::relinquished))]
 pub fn is_relinquished(v: Situation, e: Entry) -> bool
     ensures { result ≡ relinquished v e }
 {
@@ -19,6 +25,7 @@ pub fn is_relinquished(v: Situation, e: Entry) -> bool
         & (v.point.lockout_relinquish <= elapsed(e.time, v.point_state.lock_time))
 }
 
+#[tactic(auto, unfolding(model::specs::Checks::still_locked))]
 pub fn is_still_locked(v: Situation, e: Entry) -> bool
     ensures { result ≡ still_locked v e }
 {
@@ -26,6 +33,7 @@ pub fn is_still_locked(v: Situation, e: Entry) -> bool
 }
 
 // The point waits for a second factor.
+#[tactic(auto, unfolding(model::specs::Checks::waiting))]
 pub fn is_waiting(v: Situation) -> bool
     ensures { result ≡ waiting v }
 {
@@ -40,6 +48,7 @@ pub fn is_into_zone(v: Situation) -> bool
 }
 
 // The credential is in Zone_To already, and has not been there for a set timeout.
+#[tactic(auto, unfolding(model::specs::Checks::passback_violated))]
 pub fn is_passback_violated(v: Situation, e: Entry) -> bool
     ensures { result ≡ passback_violated v e }
 {
@@ -47,6 +56,6 @@ pub fn is_passback_violated(v: Situation, e: Entry) -> bool
         & is_into_zone(v)
         & (v.credential_state.zone.0 == v.point.zone_to.0)
         & ((v.zone_to.passback_timeout == 0)
-            | (wide(elapsed(e.time, v.credential_state.entered))
-                < of_minutes(v.zone_to.passback_timeout)))
+            | (u64::from(elapsed(e.time, v.credential_state.entered))
+                < u64::from(v.zone_to.passback_timeout) * u64::from(SECONDS_OF_MINUTE)))
 }

@@ -2,9 +2,8 @@
 ghost use Rattle.std.specs.Prelude.{◌≡◌};
 ghost use Rattle.model.specs.Effects.{zone_after, uses_after, loses_day, days_after, is_wrong_try, wrong_tries_with, reaches_most, wrong_tries_after, disable_reached, credential_after};
 
-use crate::words::{count_kept, date_of, of_byte, one_less, one_more};
+use crate::words::{count_kept, date_of};
 use conditions::is_into_zone;
-use conditions::words::{choose_byte, choose_long, choose_short, choose_zone};
 use model::numbers::{
     DENIED_AUTHENTICATION_FACTOR_TIMEOUT, DENIED_INCORRECT_AUTHENTICATION_FACTOR, DISABLE_LOCKOUT,
     GRANTED, NEVER, NONE, UNLIMITED,
@@ -12,27 +11,35 @@ use model::numbers::{
 use model::{CredentialState, Entry, PointId, Situation, ZoneId};
 
 // A grant takes the credential into Zone_To, or out of Zone_From to nowhere.
+#[tactic(auto, unfolding(model::specs::Effects::zone_after))]
 pub fn zone_after(v: Situation, x: u16) -> ZoneId
     ensures { result ≡ zone_after v x }
 {
-    let held = v.credential_state.zone;
-    let left = choose_zone(v.point.zone_from.0 != NONE, ZoneId(NONE), held);
-    let entered = choose_zone(is_into_zone(v), v.point.zone_to, left);
-    choose_zone(x != GRANTED, held, entered)
+    if x != GRANTED {
+        v.credential_state.zone
+    } else if is_into_zone(v) {
+        v.point.zone_to
+    } else if v.point.zone_from.0 != NONE {
+        ZoneId(NONE)
+    } else {
+        v.credential_state.zone
+    }
 }
 
 // A grant takes one of limited uses.
+#[tactic(auto, unfolding(model::specs::Effects::uses_after))]
 pub fn uses_after(v: Situation, x: u16) -> u16
     ensures { result ≡ uses_after v x }
 {
-    choose_short(
-        (x == GRANTED) & (v.credential_state.uses != UNLIMITED),
-        one_less(v.credential_state.uses),
-        v.credential_state.uses,
-    )
+    if (x == GRANTED) & (v.credential_state.uses != UNLIMITED) {
+        v.credential_state.uses.saturating_sub(1)
+    } else {
+        v.credential_state.uses
+    }
 }
 
 // A grant takes one of limited days where it is the first of all, or of a later date than the last one.
+#[tactic(auto, unfolding(model::specs::Effects::loses_day))]
 pub fn loses_day(v: Situation, e: Entry, x: u16) -> bool
     ensures { result ≡ loses_day v e x }
 {
@@ -42,17 +49,19 @@ pub fn loses_day(v: Situation, e: Entry, x: u16) -> bool
             | (date_of(v.credential_state.last_grant) < date_of(e.time)))
 }
 
+#[tactic(auto, unfolding(model::specs::Effects::days_after))]
 pub fn days_after(v: Situation, e: Entry, x: u16) -> u16
     ensures { result ≡ days_after v e x }
 {
-    choose_short(
-        loses_day(v, e, x),
-        one_less(v.credential_state.days),
-        v.credential_state.days,
-    )
+    if loses_day(v, e, x) {
+        v.credential_state.days.saturating_sub(1)
+    } else {
+        v.credential_state.days
+    }
 }
 
 // A wrong code or one that came too late, of a credential that counts them.
+#[tactic(auto, unfolding(model::specs::Effects::is_wrong_try))]
 pub fn is_wrong_try(v: Situation, x: u16) -> bool
     ensures { result ≡ is_wrong_try v x }
 {
@@ -62,19 +71,22 @@ pub fn is_wrong_try(v: Situation, x: u16) -> bool
 }
 
 // The wrong tries with this one; 256 needs a second byte.
+#[tactic(auto, unfolding(model::specs::Effects::wrong_tries_with))]
 pub fn wrong_tries_with(v: Situation) -> u16
     ensures { result ≡ wrong_tries_with v }
 {
-    one_more(v.credential_state.wrong_tries)
+    u16::from(v.credential_state.wrong_tries) + 1
 }
 
 // The event is the wrong try that locks the credential out.
+#[tactic(auto, unfolding(model::specs::Effects::reaches_most))]
 pub fn reaches_most(v: Situation, x: u16) -> bool
     ensures { result ≡ reaches_most v x }
 {
-    is_wrong_try(v, x) & (of_byte(v.credential.most_wrong_tries) <= wrong_tries_with(v))
+    is_wrong_try(v, x) & (u16::from(v.credential.most_wrong_tries) <= wrong_tries_with(v))
 }
 
+#[tactic(auto, unfolding(model::specs::Effects::reaches_most, model::specs::Effects::wrong_tries_after))]
 pub fn wrong_tries_after(v: Situation, x: u16) -> u8
     ensures { result ≡ wrong_tries_after v x }
 {
@@ -88,32 +100,35 @@ pub fn wrong_tries_after(v: Situation, x: u16) -> u8
 }
 
 // A credential at its most is locked out, whatever its disable was.
+#[tactic(auto, unfolding(model::specs::Effects::disable_reached))]
 pub fn disable_reached(v: Situation, x: u16) -> u8
     ensures { result ≡ disable_reached v x }
 {
-    choose_byte(
-        reaches_most(v, x),
-        DISABLE_LOCKOUT,
-        v.credential_state.disable,
-    )
+    if reaches_most(v, x) {
+        DISABLE_LOCKOUT
+    } else {
+        v.credential_state.disable
+    }
 }
 
 // The credential's state after the event.
+#[tactic(auto, unfolding(model::specs::Effects::credential_after))]
 pub fn credential_after(v: Situation, e: Entry, x: u16) -> CredentialState
     ensures { result ≡ credential_after v e x }
 {
     let held = v.credential_state;
-    let point = PointId(e.instance);
-    let mut c = held;
-    c.uses = uses_after(v, x);
-    c.days = days_after(v, e, x);
-    c.last_use = e.time;
-    c.zone = zone_after(v, x);
-    c.entered = choose_long((x == GRANTED) & is_into_zone(v), e.time, held.entered);
-    c.last_event = x;
-    c.disable = disable_reached(v, x);
-    c.wrong_tries = wrong_tries_after(v, x);
-    c.last_point = point;
-    c.last_grant = choose_long(x == GRANTED, e.time, held.last_grant);
-    c
+    let granted = x == GRANTED;
+    let entering = granted & is_into_zone(v);
+    CredentialState {
+        uses: uses_after(v, x),
+        days: days_after(v, e, x),
+        last_use: e.time,
+        zone: zone_after(v, x),
+        entered: if entering { e.time } else { held.entered },
+        last_event: x,
+        disable: disable_reached(v, x),
+        wrong_tries: wrong_tries_after(v, x),
+        last_point: PointId(e.instance),
+        last_grant: if granted { e.time } else { held.last_grant },
+    }
 }

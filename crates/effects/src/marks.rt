@@ -1,11 +1,9 @@
 // The credential that an answer names, and the marks of an answer.
-ghost use Rattle.std.specs.Prelude.{◌≡◌, ◌+◌, ◌≤◌};
-ghost use Rattle.model.specs.Numbers as n;
+ghost use Rattle.std.specs.Prelude.{◌≡◌, ◌≤◌};
 ghost use Rattle.model.specs.Effects as m;
 ghost use Rattle.model.specs.Effects.{named, soft_passback, credential_marks, marks};
 
 use crate::point::locks_out;
-use conditions::words::choose_credential;
 use conditions::{is_passback_violated, is_relinquished, is_waiting};
 use model::numbers::{
     DENIED_AUTHENTICATION_FACTOR_ERROR, DENIED_LOCKOUT, DENIED_LOWER_OCCUPANCY_LIMIT, DENIED_OTHER,
@@ -16,17 +14,19 @@ use model::numbers::{
 use model::{CredentialId, Entry, Situation};
 
 // The credential that the answer to a factor read names.
+#[tactic(auto, unfolding(model::specs::Effects::named))]
 pub fn named_of(v: Situation, x: u16) -> CredentialId
     ensures { result ≡ named v x }
 {
-    choose_credential(
-        !is_waiting(v) & ((x == DENIED_LOCKOUT) | (x == DENIED_AUTHENTICATION_FACTOR_ERROR)),
-        CredentialId(NONE),
-        v.number,
-    )
+    if !is_waiting(v) & ((x == DENIED_LOCKOUT) | (x == DENIED_AUTHENTICATION_FACTOR_ERROR)) {
+        CredentialId(NONE)
+    } else {
+        v.number
+    }
 }
 
 // Passback was violated at a soft zone, and the checks went past it.
+#[tactic(auto, unfolding(model::specs::Effects::soft_passback))]
 pub fn soft_passback(v: Situation, e: Entry, x: u16) -> bool
     ensures { result ≡ soft_passback v e x }
 {
@@ -47,50 +47,26 @@ fn mark(on: bool, worth: u8) -> u8
     if on { worth } else { 0 }
 }
 
-// The sum of four marks: 46 where all are set.
-fn sum_of_four(trace: bool, passback_detected: bool, muster: bool, extended: bool) -> u8
-    ensures value { result ≡ m.mark trace n.mark_trace + m.mark passback_detected n.mark_passback_detected
-        + m.mark muster n.mark_muster + m.mark extended n.mark_extended_unlock }
-    ensures upper_bound { result ≤ 46 }
-{
-    mark(trace, MARK_TRACE)
-        + mark(passback_detected, MARK_PASSBACK_DETECTED)
-        + mark(muster, MARK_MUSTER)
-        + mark(extended, MARK_EXTENDED_UNLOCK)
-}
-
 // The marks that ask nothing of a factor read: c is the credential that is named.
+#[tactic(auto, unfolding(model::specs::Effects::credential_marks))]
 pub fn credential_marks(v: Situation, e: Entry, x: u16, c: CredentialId) -> u8
     ensures value { result ≡ credential_marks v e x c }
     ensures upper_bound { result ≤ 46 }
 {
-    sum_of_four(
-        (c.0 != NONE) & v.credential.trace,
-        soft_passback(v, e, x),
-        (x == GRANTED) & v.point.muster,
-        (x == GRANTED) & v.credential.extended_time,
-    )
-}
-
-fn sum_of_marks(factor_read: bool, others: u8, lockout: bool, relinquished: bool) -> u8
-    requires { others ≤ 46 }
-    ensures { result ≡ m.mark factor_read n.mark_factor_read + others + m.mark lockout n.mark_lockout_max_attempts
-        + m.mark relinquished n.mark_lockout_relinquished }
-{
-    mark(factor_read, MARK_FACTOR_READ)
-        + others
-        + mark(lockout, MARK_LOCKOUT_MAX_ATTEMPTS)
-        + mark(relinquished, MARK_LOCKOUT_RELINQUISHED)
+    let granted = x == GRANTED;
+    mark((c.0 != NONE) & v.credential.trace, MARK_TRACE)
+        + mark(soft_passback(v, e, x), MARK_PASSBACK_DETECTED)
+        + mark(granted & v.point.muster, MARK_MUSTER)
+        + mark(granted & v.credential.extended_time, MARK_EXTENDED_UNLOCK)
 }
 
 // The marks of a factor read.
+#[tactic(auto, unfolding(model::specs::Effects::marks))]
 pub fn marks_of(v: Situation, e: Entry, x: u16) -> u8
     ensures { result ≡ marks v e x }
 {
-    sum_of_marks(
-        x != DENIED_LOCKOUT,
-        credential_marks(v, e, x, named_of(v, x)),
-        locks_out(v, e, x),
-        is_relinquished(v, e),
-    )
+    mark(x != DENIED_LOCKOUT, MARK_FACTOR_READ)
+        + credential_marks(v, e, x, named_of(v, x))
+        + mark(locks_out(v, e, x), MARK_LOCKOUT_MAX_ATTEMPTS)
+        + mark(is_relinquished(v, e), MARK_LOCKOUT_RELINQUISHED)
 }

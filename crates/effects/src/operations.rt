@@ -1,51 +1,19 @@
 // Operations 2 to 5, and the outcomes that write no state.
-ghost use Rattle.std.specs.Prelude.{◌≡◌};
+ghost use Rattle.std.specs.Prelude.{◌≡◌, ◌≤◌, SomeIff};
+ghost use Rattle.model.specs.Numbers as n;
 ghost use Rattle.model.specs.Numbers.{not_refused};
-ghost use Rattle.model.specs.Step.{no_point, no_credential, no_count, no_answer, unchanged, refuse, count_outcome, adjusted, adjust_outcome, disable_after, disable_outcome, locks, service_after, service_outcome};
+ghost use Rattle.model.specs.Step.{no_answer, unchanged, refuse, count_outcome, adjusted, adjust_outcome, disable_after, disable_outcome, locks, service_after, service_outcome};
 
 use crate::words::next_tag;
-use conditions::words::{choose_byte, choose_credential, choose_long, choose_short};
 use model::numbers::{
-    ARGUMENT_LOCK, FIRST_NEGATIVE, LARGEST_COUNT, LOCKOUT_OTHER, LOCKOUT_RELINQUISHED, MODULUS,
-    NO_EVENT, NONE, NOT_REFUSED, REFUSED_COUNT,
+    ARGUMENT_LOCK, FIRST_NEGATIVE, LOCKOUT_OTHER, LOCKOUT_RELINQUISHED, NO_EVENT, NONE,
+    NOT_REFUSED, REFUSED_COUNT,
 };
 use model::{
-    Answer, CountWrite, CredentialId, CredentialState, CredentialWrite, Entry, Outcome, PointId,
-    PointState, PointWrite, ZoneId,
+    Answer, CredentialId, CredentialState, Entry, Outcome, PointId, PointState, Write, ZoneId,
 };
-use records::state::{fresh_credential, fresh_point};
 
-// ---- what an outcome leaves unwritten
-
-fn no_point() -> PointWrite
-    ensures { result ≡ no_point }
-{
-    PointWrite {
-        written: false,
-        instance: PointId(NONE),
-        state: fresh_point(),
-    }
-}
-
-fn no_credential() -> CredentialWrite
-    ensures { result ≡ no_credential }
-{
-    CredentialWrite {
-        written: false,
-        instance: CredentialId(NONE),
-        state: fresh_credential(0, 0, 0),
-    }
-}
-
-fn no_count() -> CountWrite
-    ensures { result ≡ no_count }
-{
-    CountWrite {
-        written: false,
-        instance: ZoneId(NONE),
-        count: 0,
-    }
-}
+// ---- outcomes that write no state
 
 fn no_answer(refusal: u8, tag: u32, count: u32) -> Answer
     ensures { result ≡ no_answer refusal tag count }
@@ -53,27 +21,29 @@ fn no_answer(refusal: u8, tag: u32, count: u32) -> Answer
     Answer {
         event: NO_EVENT,
         marks: 0,
-        refusal: refusal,
-        tag: tag,
+        refusal,
+        tag,
         credential: CredentialId(NONE),
-        count: count,
+        count,
     }
 }
 
 // An answer, and nothing written.
+#[tactic(auto, unfolding(model::specs::Step::unchanged))]
 pub fn unchanged(a: Answer) -> Outcome
     ensures { result ≡ unchanged a }
 {
     Outcome {
         answer: a,
-        point: no_point(),
-        credential: no_credential(),
-        zone_to: no_count(),
-        zone_from: no_count(),
+        point: None,
+        credential: None,
+        zone_to: None,
+        zone_from: None,
     }
 }
 
 // An answer that refuses.
+#[tactic(auto, unfolding(model::specs::Step::refuse))]
 pub fn refuse(n: u8) -> Outcome
     ensures { result ≡ refuse n }
 {
@@ -90,105 +60,121 @@ pub fn out_of_service_outcome(tag: u32, count: u32) -> Outcome
 // ---- operations 2 and 3: a zone's count
 
 // Operation 2 with its amount; operation 3 with what it comes to.
+#[tactic(auto, unfolding(model::specs::Step::unchanged, model::specs::Step::count_outcome))]
 pub fn count_outcome(e: Entry, n: u32) -> Outcome
     ensures { result ≡ count_outcome e n }
 {
-    let zone = CountWrite {
-        written: true,
-        instance: ZoneId(e.instance),
-        count: n,
-    };
-    let mut o = unchanged(no_answer(NOT_REFUSED, 0, n));
-    o.zone_to = zone;
-    o
+    Outcome {
+        zone_to: Some(Write {
+            instance: ZoneId(e.instance),
+            state: n,
+        }),
+        ..unchanged(no_answer(NOT_REFUSED, 0, n))
+    }
 }
 
-// A count and a signed amount together, below zero becoming 0.
-fn adjusted_by(count: u32, amount: u32) -> u64
-    ensures { result ≡ adjusted count amount }
+// A count and a signed amount together, below zero becoming 0; None where the count has no room.
+#[tactic(auto, unfolding(model::specs::Step::adjusted, model::specs::Step::is_negative))]
+fn adjusted_by(count: u32, amount: u32) -> Option<u32>
+    ensures { SomeIff result (adjusted count amount ≤ n.largest_count) (adjusted count amount) }
 {
-    let held = count as u64;
-    let change = amount as u64;
     if FIRST_NEGATIVE <= amount {
-        if held < MODULUS - change {
-            return 0;
-        }
-        return held - (MODULUS - change);
+        Some(count.saturating_sub(amount.wrapping_neg()))
+    } else {
+        count.checked_add(amount)
     }
-    held + change
 }
 
 // Refusal 9 where the count has no room.
+#[tactic(auto, unfolding(model::specs::Step::adjust_outcome))]
 pub fn adjust_outcome(e: Entry, n: u32) -> Outcome
     ensures { result ≡ adjust_outcome e n }
 {
-    let count = adjusted_by(n, e.amount);
-    if (LARGEST_COUNT as u64) < count {
-        return refuse(REFUSED_COUNT);
+    match adjusted_by(n, e.amount) {
+        None => refuse(REFUSED_COUNT),
+        Some(count) => count_outcome(e, count),
     }
-    count_outcome(e, count as u32)
 }
 
 // ---- operation 4: a credential's disable; its wrong tries begin again
 
+#[tactic(auto, unfolding(model::specs::Step::disable_after))]
 fn disable_after(held: CredentialState, disable: u8) -> CredentialState
     ensures { result ≡ disable_after held disable }
 {
-    let mut c = held;
-    c.disable = disable;
-    c.wrong_tries = 0;
-    c
+    CredentialState {
+        disable,
+        wrong_tries: 0,
+        ..held
+    }
 }
 
+#[tactic(auto, unfolding(model::specs::Step::unchanged, model::specs::Step::disable_outcome))]
 pub fn disable_outcome(e: Entry, c: CredentialState) -> Outcome
     ensures { result ≡ disable_outcome e c }
 {
     let named = CredentialId(e.instance);
-    let mut answer = no_answer(NOT_REFUSED, 0, 0);
-    answer.credential = named;
-    let credential = CredentialWrite {
-        written: true,
-        instance: named,
-        state: disable_after(c, e.argument),
+    let answer = Answer {
+        credential: named,
+        ..no_answer(NOT_REFUSED, 0, 0)
     };
-    let mut o = unchanged(answer);
-    o.credential = credential;
-    o
+    Outcome {
+        credential: Some(Write {
+            instance: named,
+            state: disable_after(c, e.argument),
+        }),
+        ..unchanged(answer)
+    }
 }
 
 // ---- operation 5: a point in service or not
 
 // The entry locks the point; else it unlocks it.
+#[tactic(auto, unfolding(model::specs::Step::locks))]
 fn is_lock(e: Entry) -> bool
     ensures { result ≡ locks e }
 {
     e.argument == ARGUMENT_LOCK
 }
 
+#[tactic(auto, unfolding(model::specs::Step::service_after))]
 fn service_after(e: Entry, held: PointState) -> PointState
     ensures { result ≡ service_after e held }
 {
-    let lock = is_lock(e);
-    let mut p = held;
-    p.tag = next_tag(held.tag);
-    p.failures = choose_byte(lock, held.failures, 0);
-    p.locked = lock;
-    p.lock_time = choose_long(lock, e.time, held.lock_time);
-    p.waiting_credential = choose_credential(lock, CredentialId(NONE), held.waiting_credential);
-    p
+    let locking = is_lock(e);
+    let waiting_credential = if locking {
+        CredentialId(NONE)
+    } else {
+        held.waiting_credential
+    };
+    PointState {
+        tag: next_tag(held.tag),
+        failures: if locking { held.failures } else { 0 },
+        locked: locking,
+        lock_time: if locking { e.time } else { held.lock_time },
+        waiting_credential,
+        ..held
+    }
 }
 
+#[tactic(auto, unfolding(model::specs::Step::unchanged, model::specs::Step::service_outcome))]
 pub fn service_outcome(e: Entry, p: PointState, n: u32) -> Outcome
     ensures { result ≡ service_outcome e p n }
 {
-    let mut answer = no_answer(NOT_REFUSED, next_tag(p.tag), n);
-    answer.event = choose_short(is_lock(e), LOCKOUT_OTHER, LOCKOUT_RELINQUISHED);
-    let point = PointWrite {
-        written: true,
-        instance: PointId(e.instance),
-        state: service_after(e, p),
+    let locking = is_lock(e);
+    let answer = Answer {
+        event: if locking {
+            LOCKOUT_OTHER
+        } else {
+            LOCKOUT_RELINQUISHED
+        },
+        ..no_answer(NOT_REFUSED, next_tag(p.tag), n)
     };
-    let mut o = unchanged(answer);
-    o.point = point;
-    o
+    Outcome {
+        point: Some(Write {
+            instance: PointId(e.instance),
+            state: service_after(e, p),
+        }),
+        ..unchanged(answer)
+    }
 }

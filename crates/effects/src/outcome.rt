@@ -1,49 +1,44 @@
 // The outcome of an event: counts, the answer, and the state records that are written.
-ghost use Rattle.std.specs.Prelude.{◌≡◌, true, ◌+◌, if◌then◌else◌};
-ghost use Rattle.model.specs.Numbers as n;
+ghost use Rattle.std.specs.Prelude.{◌≡◌};
 ghost use Rattle.model.specs.Effects.{counts, count_after, answer_with, outcome_with, outcome_of};
 ghost use Rattle.conditions.specs.Room.{Room};
 
 use crate::credential::credential_after;
 use crate::marks::{marks_of, named_of};
 use crate::point::point_after;
-use crate::words::{count_less, next_tag};
+use crate::words::next_tag;
 use model::numbers::{GRANTED, NO_EVENT, NOT_REFUSED};
-use model::{
-    Answer, CountWrite, CredentialId, CredentialWrite, Entry, Outcome, PointId, PointState,
-    PointWrite, Situation,
-};
+use model::{Answer, CredentialId, Entry, Outcome, PointId, PointState, Situation, Write};
 
 // The event is a counted passage of a zone.
+#[tactic(auto, unfolding(model::specs::Effects::counts))]
 pub fn counts_at(v: Situation, x: u16, counting: bool) -> bool
     ensures { result ≡ counts v x counting }
 {
     (x == GRANTED) & v.point.count_adjust & counting
 }
 
-// A count with one more where it gains; then it has room.
-fn gained(on: bool, count: u32) -> u32
-    requires { on ≡ true → count ≡ n.largest_count → ⊥ }
-    ensures { result ≡ if on then count + 1 else count }
-{
-    if on { count + 1 } else { count }
-}
-
 // Zone_To's count after the event.
+#[tactic(auto, unfolding(model::specs::Effects::count_after))]
 fn count_after(v: Situation, x: u16) -> u32
     requires { Room v x }
     ensures { result ≡ count_after v x }
 {
-    gained(counts_at(v, x, v.zone_to.counting), v.count_to)
+    if counts_at(v, x, v.zone_to.counting) {
+        v.count_to + 1
+    } else {
+        v.count_to
+    }
 }
 
+#[tactic(auto, unfolding(model::specs::Effects::answer_with))]
 fn answer_with(v: Situation, x: u16, marks: u8, named: CredentialId) -> Answer
     requires { Room v x }
     ensures { result ≡ answer_with v x marks named }
 {
     Answer {
         event: x,
-        marks: marks,
+        marks,
         refusal: NOT_REFUSED,
         tag: next_tag(v.point_state.tag),
         credential: named,
@@ -52,6 +47,7 @@ fn answer_with(v: Situation, x: u16, marks: u8, named: CredentialId) -> Answer
 }
 
 // What follows from an event: marks, the credential named and the point's state are those of the operation.
+#[tactic(auto, unfolding(model::specs::Effects::outcome_with))]
 pub fn outcome_with(
     v: Situation,
     e: Entry,
@@ -63,34 +59,29 @@ pub fn outcome_with(
     requires { Room v x }
     ensures { result ≡ outcome_with v e x marks named point }
 {
-    let to = v.point.zone_to;
-    let from = v.point.zone_from;
     Outcome {
         answer: answer_with(v, x, marks, named),
-        point: PointWrite {
-            written: true,
+        point: Some(Write {
             instance: PointId(e.instance),
             state: point,
-        },
-        credential: CredentialWrite {
-            written: x != NO_EVENT,
+        }),
+        credential: (x != NO_EVENT).then(|| Write {
             instance: named,
             state: credential_after(v, e, x),
-        },
-        zone_to: CountWrite {
-            written: counts_at(v, x, v.zone_to.counting),
-            instance: to,
-            count: count_after(v, x),
-        },
-        zone_from: CountWrite {
-            written: counts_at(v, x, v.zone_from.counting),
-            instance: from,
-            count: count_less(v.count_from),
-        },
+        }),
+        zone_to: counts_at(v, x, v.zone_to.counting).then_some(Write {
+            instance: v.point.zone_to,
+            state: count_after(v, x),
+        }),
+        zone_from: counts_at(v, x, v.zone_from.counting).then_some(Write {
+            instance: v.point.zone_from,
+            state: v.count_from.saturating_sub(1),
+        }),
     }
 }
 
 // What a factor read does, at a point in service, that came to the event x.
+#[tactic(auto, unfolding(model::specs::Effects::outcome_of))]
 pub fn factor_outcome(v: Situation, e: Entry, x: u16) -> Outcome
     requires { Room v x }
     ensures { result ≡ outcome_of v e x }

@@ -12,17 +12,17 @@ use model::numbers::{
 };
 use model::{Entry, Operation};
 
-// The operation of a number.
-pub fn operation_of(n: u8) -> Operation
+// The operation of a number, where it has one.
+pub fn operation_of(n: u8) -> Option<Operation>
     ensures { result ≡ operation_of n }
 {
     match n {
-        OPERATION_FACTOR => Operation::Factor,
-        OPERATION_SET_COUNT => Operation::SetCount,
-        OPERATION_ADJUST_COUNT => Operation::AdjustCount,
-        OPERATION_SET_DISABLE => Operation::SetDisable,
-        OPERATION_SET_SERVICE => Operation::SetService,
-        _ => Operation::Unknown,
+        OPERATION_FACTOR => Some(Operation::Factor),
+        OPERATION_SET_COUNT => Some(Operation::SetCount),
+        OPERATION_ADJUST_COUNT => Some(Operation::AdjustCount),
+        OPERATION_SET_DISABLE => Some(Operation::SetDisable),
+        OPERATION_SET_SERVICE => Some(Operation::SetService),
+        _ => None,
     }
 }
 
@@ -47,21 +47,21 @@ fn no_value(e: Entry) -> bool
 }
 
 // The argument, the amount and the value are those of the operation.
-pub fn arguments_fit(o: Operation, e: Entry) -> bool
+pub fn arguments_fit(o: Option<Operation>, e: Entry) -> bool
     ensures { result ≡ arguments_fit o e }
 {
     match o {
-        Operation::Factor => (e.argument != FORMAT_UNDEFINED) & no_amount(e),
-        Operation::SetCount => (e.argument == 0) & no_value(e),
-        Operation::AdjustCount => (e.argument == 0) & no_value(e),
-        Operation::SetDisable => (e.argument <= LARGEST_DISABLE) & no_amount(e) & no_value(e),
-        Operation::SetService => (e.argument <= ARGUMENT_LOCK) & no_amount(e) & no_value(e),
-        Operation::Unknown => false,
+        Some(Operation::Factor) => (e.argument != FORMAT_UNDEFINED) & no_amount(e),
+        Some(Operation::SetCount) => (e.argument == 0) & no_value(e),
+        Some(Operation::AdjustCount) => (e.argument == 0) & no_value(e),
+        Some(Operation::SetDisable) => (e.argument <= LARGEST_DISABLE) & no_amount(e) & no_value(e),
+        Some(Operation::SetService) => (e.argument <= ARGUMENT_LOCK) & no_amount(e) & no_value(e),
+        None => false,
     }
 }
 
 // The entry has the form that refusal 7 asks.
-pub fn in_form(o: Operation, e: Entry) -> bool
+pub fn in_form(o: Option<Operation>, e: Entry) -> bool
     ensures { result ≡ in_form o e }
 {
     arguments_fit(o, e) & (e.spare == 0) & (e.instance < NONE) & (e.time != NEVER)

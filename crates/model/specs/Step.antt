@@ -1,10 +1,10 @@
 -- One entry at the panel: its situation, its outcome under its operation, the records written; then a list of entries.
-use Rattle.std.specs.Prelude.{ℕ, ◌+◌, ◌-◌, List, [], ◌∷◌, Bool, true, false, not, ltb, leb, eqb, if◌then◌else◌, Option, Some, None}
+use Rattle.std.specs.Prelude.{ℕ, ◌+◌, ◌-◌, List, [], ◌∷◌, Bool, not, ltb, leb, eqb, if◌then◌else◌, Option, Some, None}
 use Rattle.model.specs.Words.{missing}
 use Rattle.model.specs.Numbers as n
 use Rattle.model.specs.Numbers.{NONE}
 use Rattle.model.specs.Site.{zone_id, point_id, credential_id, zone_of, point_of, credential_of, factor_disable}
-use Rattle.model.specs.State.{Pair, Panel, sites, find, seek_zone, seek_credential, write, count, zone_bytes, point_state_of, point_bytes, credential_state_of, credential_bytes, fresh_point, fresh_with}
+use Rattle.model.specs.State.{Pair, Panel, sites, find, seek_zone, seek_credential, write, count, zone_bytes, point_state_of, point_bytes, credential_state_of, credential_bytes}
 use Rattle.model.specs.Entry.{operation_of, object_kind, in_form}
 use Rattle.model.specs.Checks.{factor_for, credential_read, verdict, event_of}
 use Rattle.model.specs.Effects.{next_tag, outcome_of}

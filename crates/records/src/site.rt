@@ -18,16 +18,16 @@ pub fn kind_of(part: &Record) -> u8
     number_at(part, layout::KIND)
 }
 
-pub fn record_kind_of(part: &Record) -> RecordKind
+pub fn record_kind_of(part: &Record) -> Option<RecordKind>
     ensures { result ≡ Site.record_kind part.now }
 {
     match kind_of(part) {
-        ACCESS_ZONE => RecordKind::OfZone,
-        ACCESS_POINT => RecordKind::OfPoint,
-        ACCESS_RULE => RecordKind::OfRule,
-        ACCESS_CREDENTIAL => RecordKind::OfCredential,
-        AUTHENTICATION_FACTOR => RecordKind::OfFactor,
-        _ => RecordKind::OfUnknown,
+        ACCESS_ZONE => Some(RecordKind::OfZone),
+        ACCESS_POINT => Some(RecordKind::OfPoint),
+        ACCESS_RULE => Some(RecordKind::OfRule),
+        ACCESS_CREDENTIAL => Some(RecordKind::OfCredential),
+        AUTHENTICATION_FACTOR => Some(RecordKind::OfFactor),
+        _ => None,
     }
 }
 

@@ -2,27 +2,31 @@
 use Prim.Native.Nat.{ℕ}
 use mathlib.Core.Path.{◌≡◌, refl}
 use mathlib.Core.List.{[], ◌∷◌}
+use Rattle.std.specs.Prelude.{Result, Ok, Err}
 use mathlib.Core.Bool.{true, false}
 use Rattle.octets.specs.Octets.{field, digits}
-use Rattle.wiegand.specs.Wiegand.{bits, number_of, facility_of, card_of, number_of_ones, is_even, is_odd, first_parity, last_parity, factor, reading_error, nothing_made, factor_of, read_wiegand26, returned_number, between, first_parity_bit, last_parity_bit, written, write_wiegand26}
+use Rattle.wiegand.specs.Wiegand.{bits, number_of, facility_of, card_of, number_of_ones, is_even, is_odd, first_parity, last_parity, factor, reading_error, not_twenty_six_bits, factor_of, read_wiegand26, returned_number, between, first_parity_bit, last_parity_bit, written, write_wiegand26}
 use Rattle.wiegand.specs.Theorems.{facility_in, card_in, changed}
-use Rattle.wiegand.specs.declared.Reading.{Reading}
-use Rattle.wiegand.specs.declared.BitsReturned.TheVariants.{WorkedThrough, NotTwentySixBits}
+use Rattle.wiegand.specs.declared.Factor.{Factor}
+use Rattle.wiegand.specs.declared.NotTwentySixBits.{NotTwentySixBits}
 
 -- One name that opens the definitions.
 unfoldable pub readers : Unit {0}
-unfolding field digits bits number_of facility_of card_of number_of_ones is_even is_odd first_parity last_parity factor reading_error nothing_made factor_of read_wiegand26 between first_parity_bit last_parity_bit written write_wiegand26 facility_in card_in changed
+unfolding field digits bits number_of facility_of card_of number_of_ones is_even is_odd first_parity last_parity factor reading_error factor_of read_wiegand26 between first_parity_bit last_parity_bit written write_wiegand26 facility_in card_in changed
 readers = tt
 
--- A factor of format 8 with its last three octets; a reading error; nothing made.
-octets : ℕ → ℕ → ℕ → Reading
-octets a b c = record { returned = WorkedThrough; format = 8; value = 0 ∷ 0 ∷ 0 ∷ 0 ∷ 0 ∷ a ∷ b ∷ c ∷ [] }
+-- A factor of format 8 with its last three octets, as a value and as what is read; a reading error; nothing made.
+value : ℕ → ℕ → ℕ → Factor
+value a b c = record { format = 8; value = 0 ∷ 0 ∷ 0 ∷ 0 ∷ 0 ∷ a ∷ b ∷ c ∷ [] }
 
-error : Reading
-error = record { returned = WorkedThrough; format = 1; value = 0 ∷ 0 ∷ 0 ∷ 0 ∷ 0 ∷ 0 ∷ 0 ∷ 0 ∷ [] }
+octets : ℕ → ℕ → ℕ → Result Factor NotTwentySixBits
+octets a b c = Ok (value a b c)
 
-nothing : Reading
-nothing = record { returned = NotTwentySixBits; format = 0; value = 0 ∷ 0 ∷ 0 ∷ 0 ∷ 0 ∷ 0 ∷ 0 ∷ 0 ∷ [] }
+error : Result Factor NotTwentySixBits
+error = Ok (record { format = 1; value = 0 ∷ 0 ∷ 0 ∷ 0 ∷ 0 ∷ 0 ∷ 0 ∷ 0 ∷ [] })
+
+nothing : Result Factor NotTwentySixBits
+nothing = Err not_twenty_six_bits
 
 -- ── bits and numbers
 
@@ -39,10 +43,10 @@ pub record BitCases : Type 0 where
   -- Facility 0xA5 and card 0x1234: three bytes that differ.
   together : between 0xA5 0x1234 ≡ bits 24 0xA51234
   apart : facility_of (bits 26 0x34A2469) ∷ card_of (bits 26 0x34A2469) ∷ [] ≡ 0xA5 ∷ 0x1234 ∷ []
-  in_value : facility_in (octets 0xA5 0x12 0x34) ∷ card_in (octets 0xA5 0x12 0x34) ∷ [] ≡ 0xA5 ∷ 0x1234 ∷ []
+  in_value : facility_in (value 0xA5 0x12 0x34) ∷ card_in (value 0xA5 0x12 0x34) ∷ [] ≡ 0xA5 ∷ 0x1234 ∷ []
 
 pub bit_cases : BitCases
-unfolding readers octets
+unfolding readers value octets
 bit_cases =
     record { of_number = refl; to_number = refl; ones = refl; even = refl; odd = refl; together = refl; apart = refl; in_value = refl }
 
@@ -55,7 +59,7 @@ pub record CardCases : Type 0 where
   own_number : write_wiegand26 131 77 ≡ 50725019
   own_bits : bits 26 50725019 ≡ written 131 77
   own_read : read_wiegand26 50725019 26 ≡ octets 0x83 0x00 0x4D
-  own_parts : facility_in (read_wiegand26 50725019 26) ∷ card_in (read_wiegand26 50725019 26) ∷ [] ≡ 131 ∷ 77 ∷ []
+  own_parts : facility_in (value 0x83 0x00 0x4D) ∷ card_in (value 0x83 0x00 0x4D) ∷ [] ≡ 131 ∷ 77 ∷ []
   -- The smallest and the largest facility and card; a facility and a card of one bit, at either end.
   numbers :
       write_wiegand26 0 0 ∷ write_wiegand26 0 65535 ∷ write_wiegand26 255 0 ∷ write_wiegand26 255 65535 ∷ write_wiegand26 1 32768 ∷ write_wiegand26 128 1 ∷ []
@@ -65,7 +69,7 @@ pub record CardCases : Type 0 where
       ≡ octets 0x00 0x00 0x00 ∷ octets 0x00 0xFF 0xFF ∷ octets 0xFF 0x00 0x00 ∷ octets 0xFF 0xFF 0xFF ∷ octets 0x01 0x80 0x00 ∷ octets 0x80 0x00 0x01 ∷ []
 
 pub card_cases : CardCases
-unfolding readers octets
+unfolding readers value octets
 card_cases =
     record { own_written = refl; own_number = refl; own_bits = refl; own_read = refl; own_parts = refl; numbers = refl; readings = refl }
 
@@ -85,10 +89,10 @@ pub record TurnedAwayCases : Type 0 where
   -- The count is asked before parity: wrong parity in 27 bits is no reading error.
   order : read_wiegand26 0 27 ∷ read_wiegand26 0 26 ∷ [] ≡ nothing ∷ error ∷ []
   -- Their numbers.
-  returned : returned_number (read_wiegand26 0 27).returned ∷ returned_number (read_wiegand26 0 26).returned ∷ [] ≡ 17 ∷ 0 ∷ []
+  returned : returned_number (read_wiegand26 0 27) ∷ returned_number (read_wiegand26 0 26) ∷ [] ≡ 17 ∷ 0 ∷ []
 
 pub turned_away_cases : TurnedAwayCases
-unfolding readers octets error nothing
+unfolding readers value octets error nothing
 turned_away_cases =
     record { largest = refl; longer = refl; counts = refl; fewer = refl; order = refl; returned = refl }
 
@@ -106,5 +110,5 @@ pub record ParityCases : Type 0 where
   not_found : read_wiegand26 (changed 1 (changed 2 50725019)) 26 ∷ read_wiegand26 (changed 25 (changed 24 50725019)) 26 ∷ [] ≡ octets 0x83 0x00 0x4E ∷ octets 0x03 0x00 0x4D ∷ []
 
 pub parity_cases : ParityCases
-unfolding readers octets error
+unfolding readers value octets error
 parity_cases = record { wrong = refl; parities = refl; changed_bits = refl; not_found = refl }

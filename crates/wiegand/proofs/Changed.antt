@@ -1,5 +1,6 @@
 -- Changed bits are found: one, or two of which one is in each half.
 use mathlib.Core.Path.{◌≡◌, refl, ap, ◌∙◌}
+use Rattle.std.specs.Prelude.{Ok}
 use mathlib.Core.Bool.{Bool, true, false, not}
 use Prim.Native.Nat.{ℕ, ◌<◌}
 use lib.Dec.{ltb}
@@ -10,15 +11,15 @@ use Rattle.wiegand.proofs.Parity.{first_changed, last_changed}
 use Rattle.wiegand.proofs.Written.{read_bits, written_lt, written_first, written_last}
 
 -- Where the first parity is wrong, or the last.
-first_wrong : (n : ℕ) → n < 67108864 → first_parity (bits 26 n) ≡ false → read_wiegand26 n 26 ≡ reading_error
+first_wrong : (n : ℕ) → n < 67108864 → first_parity (bits 26 n) ≡ false → read_wiegand26 n 26 ≡ Ok reading_error
 unfolding factor_of
 first_wrong n l h = rw (read_bits n l, h)
 
-last_wrong : (n : ℕ) → n < 67108864 → first_parity (bits 26 n) ≡ true → last_parity (bits 26 n) ≡ false → read_wiegand26 n 26 ≡ reading_error
+last_wrong : (n : ℕ) → n < 67108864 → first_parity (bits 26 n) ≡ true → last_parity (bits 26 n) ≡ false → read_wiegand26 n 26 ≡ Ok reading_error
 unfolding factor_of
 last_wrong n l h k = rw (read_bits n l, h, k)
 
-one_changed_in : (f c i : ℕ) (t : Bool) → ltb i 13 ≡ t → i < 26 → read_wiegand26 (changed i (write_wiegand26 f c)) 26 ≡ reading_error
+one_changed_in : (f c i : ℕ) (t : Bool) → ltb i 13 ≡ t → i < 26 → read_wiegand26 (changed i (write_wiegand26 f c)) 26 ≡ Ok reading_error
 one_changed_in f c i true h l =
     let n = write_wiegand26 f c in
     let t = last_changed i n (ltb-true i 13 h) (written_lt f c) in

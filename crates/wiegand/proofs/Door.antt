@@ -1,6 +1,7 @@
 -- From reader to door: the bits of a card in a journal's entry.
 use Prim.Native.Nat.{ℕ}
 use mathlib.Core.Path.{◌≡◌, refl}
+use Rattle.std.specs.Prelude.{Result, Ok, Err}
 use mathlib.Core.List.{List, [], ◌∷◌, ◌++◌}
 use Rattle.octets.specs.Octets.{field, digits}
 use Rattle.model.specs.Words.{zeros}
@@ -9,7 +10,8 @@ use Rattle.model.specs.Calls.{RunResult}
 use Rattle.model.proofs.Open.{definitions}
 use Rattle.model.proofs.Build.{locking_point, credential, run_of, events, examples}
 use Rattle.wiegand.specs.Wiegand.{read_wiegand26}
-use Rattle.wiegand.specs.declared.Reading.{Reading}
+use Rattle.wiegand.specs.declared.Factor.{Factor}
+use Rattle.wiegand.specs.declared.NotTwentySixBits.{NotTwentySixBits}
 use Rattle.wiegand.proofs.Cases.{readers}
 
 -- 002's card, format 8, facility 131, card 77, of credential 33.
@@ -21,13 +23,14 @@ own_card =
 unfoldable pub door : List (List ℕ)
 door = locking_point 2 3 0 ∷ credential 33 NEVER UNLIMITED NONE ∷ own_card ∷ []
 
--- A reading in an entry at point 2: its format is the small argument, its value the value.
-unfoldable pub entered : Reading → List ℕ
-entered r = (1 ∷ r.format ∷ 0 ∷ 0 ∷ []) ++ digits 4 100 ++ digits 4 2 ++ zeros 4 ++ r.value
+-- A factor in an entry at point 2: its format is the small argument, its value the value. No entry of bits that are turned away.
+unfoldable pub entered : Result Factor NotTwentySixBits → List (List ℕ)
+entered (Ok made) = ((1 ∷ made.format ∷ 0 ∷ 0 ∷ []) ++ digits 4 100 ++ digits 4 2 ++ zeros 4 ++ made.value) ∷ []
+entered (Err refusal) = []
 
 -- The bits at the door, from fresh.
 unfoldable pub shown : ℕ → RunResult
-shown number = run_of door (entered (read_wiegand26 number 26) ∷ [])
+shown number = run_of door (entered (read_wiegand26 number 26))
 
 -- The failures in the point's state.
 unfoldable pub failures : RunResult → ℕ

@@ -3,6 +3,7 @@ use Rattle.std.specs.Prelude.{if◌then◌else◌}
 use mathlib.Core.Path.{◌≡◌, refl, sym, ap, ap₂, ◌∙◌}
 use mathlib.Core.List.{List, [], ◌∷◌, ◌++◌}
 use mathlib.Core.Bool.{Bool, true, false, not, ◌&&◌, ◌||◌}
+use Rattle.std.specs.Prelude.{Ok, Err}
 use Prim.Native.Nat.{ℕ, suc, ◌+◌, ◌/◌, ◌%◌, ◌<◌}
 use native.Mathlib.Nat.{add-zero, mod-eq_of_lt, mod-lt}
 use native.Mathlib.Omega.{arith}
@@ -15,8 +16,8 @@ use Rattle.octets.specs.Octets.{digits}
 use Rattle.octets.proofs.Laws.{field_digits}
 use Rattle.model.specs.Words.{bit, bit_of, zeros}
 use Rattle.model.proofs.Laws.{and_left, and_right, or_left, or_right}
-use Rattle.wiegand.specs.declared.Reading.{Reading}
-use Rattle.wiegand.specs.Wiegand.{bits, number_of, number_of_ones, is_even, is_odd, first_parity, last_parity, facility_of, card_of, factor, factor_of, reading_error, nothing_made, read_wiegand26, between, first_parity_bit, last_parity_bit, written, write_wiegand26, format_wiegand26}
+use Rattle.wiegand.specs.declared.Factor.{Factor}
+use Rattle.wiegand.specs.Wiegand.{bits, number_of, number_of_ones, is_even, is_odd, first_parity, last_parity, facility_of, card_of, factor, factor_of, reading_error, not_twenty_six_bits, read_wiegand26, between, first_parity_bit, last_parity_bit, written, write_wiegand26, format_wiegand26}
 use Rattle.wiegand.specs.Theorems.{facility_in, card_in, ReadBack, OnlyWritten, NoneShared}
 use Rattle.wiegand.proofs.Bits.{length_bits, bits_join, bits_mod, number_bits, number_lt, bits_number, ones_append}
 use Rattle.wiegand.proofs.Fields.{facility_number, card_number, written_number}
@@ -25,7 +26,7 @@ use Rattle.wiegand.proofs.Parity.{even_with, even_only, odd_with, odd_only}
 -- ── what is read
 
 -- 26 bits become their factor.
-pub read_bits : (n : ℕ) → n < 67108864 → read_wiegand26 n 26 ≡ factor_of (bits 26 n)
+pub read_bits : (n : ℕ) → n < 67108864 → read_wiegand26 n 26 ≡ Ok (factor_of (bits 26 n))
 unfolding read_wiegand26
 read_bits n h = rw (lt-leb 67108864 n h)
 
@@ -79,17 +80,17 @@ written_last f c =
 -- ── the factor of good bits
 
 read_good : (n : ℕ) → n < 67108864 → first_parity (bits 26 n) && last_parity (bits 26 n) ≡ true
-    → read_wiegand26 n 26 ≡ factor (n / 131072 % 256) (n / 2 % 65536)
+    → read_wiegand26 n 26 ≡ Ok (factor (n / 131072 % 256) (n / 2 % 65536))
 unfolding factor_of
 read_good n h g = rw (read_bits n h, g, facility_number n, card_number n)
 
-read_written : (f c : ℕ) → f < 256 → c < 65536 → read_wiegand26 (write_wiegand26 f c) 26 ≡ factor f c
+read_written : (f c : ℕ) → f < 256 → c < 65536 → read_wiegand26 (write_wiegand26 f c) 26 ≡ Ok (factor f c)
 read_written f c a b =
     let n = write_wiegand26 f c in
     let w = written_number f c a b in
     let e : n / 131072 % 256 ≡ f = rw w (omega arith) in
     let d : n / 2 % 65536 ≡ c = rw w (omega arith) in
-    read_good n (written_lt f c) (rw (written_first f c, written_last f c)) ∙ ap₂ factor e d
+    read_good n (written_lt f c) (rw (written_first f c, written_last f c)) ∙ ap₂ (λ x y. Ok (factor x y)) e d
 
 -- ── facility and card in the value
 
@@ -103,33 +104,32 @@ card_in_law f c = field_digits 6 1 c (zeros 5 ++ digits 1 f) [] refl
 
 pub read_back : ReadBack
 unfolding ReadBack
-read_back f c a b =
-    let r = read_written f c a b in
-    (r, ap facility_in r ∙ facility_in_law f c, ap card_in r ∙ card_in_law f c)
+read_back f c a b = (read_written f c a b, facility_in_law f c, card_in_law f c)
 
 -- ── what is read as format 8
 
 -- It was not turned away, and its parities are right.
-made : (t : Bool) (r : Reading) → (if t then nothing_made else r).format ≡ format_wiegand26 → t ≡ false
-unfolding nothing_made
-made true r h = absurd (omega arith)
-made false r h = refl
+made_of : (t : Bool) (r made : Factor) → (if t then Err not_twenty_six_bits else Ok r) ≡ Ok made → (t ≡ false) × (r ≡ made)
+made_of true r made h = cc
+made_of false r made h = (refl, cc)
 
 good : (g : Bool) (f c : ℕ) → (if g then factor f c else reading_error).format ≡ format_wiegand26 → g ≡ true
 unfolding reading_error
 good true f c h = refl
 good false f c h = absurd (omega arith)
 
-is_26 : (n k : ℕ) → (read_wiegand26 n k).format ≡ format_wiegand26 → (k ≡ 26) × (n < 67108864)
+is_26 : (n k : ℕ) (made : Factor) → read_wiegand26 n k ≡ Ok made → (k ≡ 26) × (n < 67108864)
 unfolding read_wiegand26
-is_26 n k h =
-    let t = made (not (eqb k 26) || leb 67108864 n) (factor_of (bits 26 n)) h in
+is_26 n k made h =
+    let t = (made_of (not (eqb k 26) || leb 67108864 n) (factor_of (bits 26 n)) made h).0 in
     (eqb-true k 26 (not-false (eqb k 26) (or_left (not (eqb k 26)) (leb 67108864 n) t)), leb-false 67108864 n (or_right (not (eqb k 26)) (leb 67108864 n) t))
 
-is_good : (n : ℕ) → n < 67108864 → (read_wiegand26 n 26).format ≡ format_wiegand26 → first_parity (bits 26 n) && last_parity (bits 26 n) ≡ true
+is_good : (n : ℕ) (made : Factor) → n < 67108864 → read_wiegand26 n 26 ≡ Ok made → made.format ≡ format_wiegand26
+    → first_parity (bits 26 n) && last_parity (bits 26 n) ≡ true
 unfolding factor_of
-is_good n l h =
-    good (first_parity (bits 26 n) && last_parity (bits 26 n)) (facility_of (bits 26 n)) (card_of (bits 26 n)) (rw (read_bits n l) at h)
+is_good n made l h m =
+    let e : factor_of (bits 26 n) ≡ made = (made_of false (factor_of (bits 26 n)) made (sym (read_bits n l) ∙ h)).1 in
+    good (first_parity (bits 26 n) && last_parity (bits 26 n)) (facility_of (bits 26 n)) (card_of (bits 26 n)) (ap (λ r. r.format) e ∙ m)
 
 -- 26 bits are parity bits around facility and card.
 first_bit : (w n : ℕ) → bits (suc w) n ≡ bit n w ∷ bits w n
@@ -162,28 +162,25 @@ good_written n h a b =
     (sym (last_around (bit n 25) (bit n 0) m (length_between f c)) ∙ sym (ap last_parity (bits_around n)) ∙ b) in
     sym (mod-eq_of_lt h) ∙ sym (number_bits 26 n) ∙ ap number_of (bits_around n ∙ ap₂ (λ x y. around x m y) p q)
 
-only_26 : (n : ℕ) → (read_wiegand26 n 26).format ≡ format_wiegand26 → n < 67108864
-    → (facility_in (read_wiegand26 n 26) < 256) × (card_in (read_wiegand26 n 26) < 65536)
-    × (n ≡ write_wiegand26 (facility_in (read_wiegand26 n 26)) (card_in (read_wiegand26 n 26)))
-only_26 n h l =
+only_26 : (n : ℕ) (made : Factor) → read_wiegand26 n 26 ≡ Ok made → made.format ≡ format_wiegand26 → n < 67108864
+    → (facility_in made < 256) × (card_in made < 65536) × (n ≡ write_wiegand26 (facility_in made) (card_in made))
+only_26 n made h m l =
     let a = first_parity (bits 26 n) in
     let b = last_parity (bits 26 n) in
-    let g = is_good n l h in
+    let g = is_good n made l h m in
     let f = n / 131072 % 256 in
     let c = n / 2 % 65536 in
     let w : n ≡ write_wiegand26 f c = good_written n l (and_left a b g) (and_right a b g) in
-    rw (read_good n l g, facility_in_law f c, card_in_law f c) (mod-lt (n / 131072) (lit< tt), mod-lt (n / 2) (lit< tt), w)
+    let e : made ≡ factor f c = (made_of false made (factor f c) (sym h ∙ read_good n l g)).1 in
+    rw (e, facility_in_law f c, card_in_law f c) (mod-lt (n / 131072) (lit< tt), mod-lt (n / 2) (lit< tt), w)
 
 pub only_written : OnlyWritten
 unfolding OnlyWritten
-only_written n k h =
-    let t = is_26 n k h in
-    let o = only_26 n (rw t.0 at h) t.1 in
-    rw t.0 (refl, o.0, o.1, o.2)
+only_written n k made h m =
+    let t = is_26 n k made h in
+    let o = only_26 n made (rw t.0 at h) m t.1 in
+    (t.0, o.0, o.1, o.2)
 
 pub none_shared : NoneShared
 unfolding NoneShared OnlyWritten
-none_shared n m h e =
-    let a = only_written n 26 h in
-    let b = only_written m 26 (ap (λ r. r.format) (sym e) ∙ h) in
-    a.3 ∙ ap (λ r. write_wiegand26 (facility_in r) (card_in r)) e ∙ sym b.3
+none_shared n other made h m e = (only_written n 26 made h m).3 ∙ sym (only_written other 26 made e m).3

@@ -1,11 +1,10 @@
 -- Document 02, job 12, "Raw 26-bit readers": the bits of a reader to the factor of a journal entry, and the way back.
-use Rattle.std.specs.Prelude.{ℕ, zero, suc, ◌+◌, ◌*◌, ◌%◌, ◌^◌, List, [], ◌∷◌, ◌++◌, Bool, not, ◌&&◌, ◌||◌, leb, eqb, length, take, drop, if◌then◌else◌}
+use Rattle.std.specs.Prelude.{ℕ, zero, suc, ◌+◌, ◌*◌, ◌%◌, ◌^◌, List, [], ◌∷◌, ◌++◌, Bool, not, ◌&&◌, ◌||◌, leb, eqb, length, take, drop, if◌then◌else◌, Result, Ok, Err}
 use Rattle.octets.specs.Octets.{digits}
 use Rattle.model.specs.Words.{zeros, bit, bit_of}
-use Rattle.model.specs.Numbers.{format_undefined, format_error}
-use Rattle.wiegand.specs.declared.Reading.{Reading}
-use Rattle.wiegand.specs.declared.BitsReturned.{BitsReturned}
-use Rattle.wiegand.specs.declared.BitsReturned.TheVariants.{WorkedThrough, NotTwentySixBits}
+use Rattle.model.specs.Numbers.{format_error}
+use Rattle.wiegand.specs.declared.Factor.{Factor}
+use Rattle.wiegand.specs.declared.NotTwentySixBits.{NotTwentySixBits}
 
 -- ── "Older readers hand us 26 bits: a parity bit, 8 bits of facility, 16 of card number, a parity bit." "The bits come as one number, the
 -- first bit highest, with their count."
@@ -54,31 +53,30 @@ format_wiegand26 = 8
 
 -- "Good bits become a factor of the WIEGAND26 format, its octets as Annex P in 002 lays them down, right-aligned in the eight value bytes":
 -- "Octet[1] = facility-code", "Octet[2..3] = card-number".
-unfoldable pub factor : ℕ → ℕ → Reading
-factor facility card =
-    record { returned = WorkedThrough; format = format_wiegand26; value = zeros 5 ++ digits 1 facility ++ digits 2 card }
+unfoldable pub factor : ℕ → ℕ → Factor
+factor facility card = record { format = format_wiegand26; value = zeros 5 ++ digits 1 facility ++ digits 2 card }
 
 -- "wrong parity becomes format 1 with value zero."
-unfoldable pub reading_error : Reading
-reading_error = record { returned = WorkedThrough; format = format_error; value = zeros 8 }
-
--- "nothing made": format 0 is no format.
-unfoldable pub nothing_made : Reading
-nothing_made = record { returned = NotTwentySixBits; format = format_undefined; value = zeros 8 }
+unfoldable pub reading_error : Factor
+reading_error = record { format = format_error; value = zeros 8 }
 
 -- The factor of 26 bits.
-unfoldable pub factor_of : List Bool → Reading
+unfoldable pub factor_of : List Bool → Factor
 factor_of bs = if first_parity bs && last_parity bs then factor (facility_of bs) (card_of bs) else reading_error
 
+-- "nothing made".
+abbrev pub not_twenty_six_bits : NotTwentySixBits
+not_twenty_six_bits = record {}
+
 -- The way there. "Turned away: 17, for a count that is not 26 or a number of 67,108,864 or more, nothing made."
-unfoldable pub read_wiegand26 : ℕ → ℕ → Reading
+unfoldable pub read_wiegand26 : ℕ → ℕ → Result Factor NotTwentySixBits
 read_wiegand26 number count =
-    if not (eqb count 26) || leb 67108864 number then nothing_made else factor_of (bits 26 number)
+    if not (eqb count 26) || leb 67108864 number then Err not_twenty_six_bits else Ok (factor_of (bits 26 number))
 
 -- "Turned away: 17"; 0 for worked through, as in document 01.
-abbrev pub returned_number : BitsReturned → ℕ
-returned_number WorkedThrough = 0
-returned_number NotTwentySixBits = 17
+abbrev pub returned_number : Result Factor NotTwentySixBits → ℕ
+returned_number (Ok made) = 0
+returned_number (Err refusal) = 17
 
 -- ── "The way back, from facility and card to bits, is wanted too."
 

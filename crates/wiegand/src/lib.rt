@@ -12,17 +12,13 @@ pub const WIEGAND26_BITS: u32 = 26;
 // How many numbers they can make: one above the largest.
 pub const WIEGAND26_NUMBERS: u64 = 67108864;
 
-// Whether bits were worked through, or turned away.
+// The factor that 26 bits become: what a journal entry asks of it.
 #[derive(Clone, Copy)]
-pub enum BitsReturned {
-    WorkedThrough,
-    NotTwentySixBits,
-}
-
-// The factor that bits become. Where they are turned away nothing is made: format 0 and a value of zeros.
-#[derive(Clone, Copy)]
-pub struct Reading {
-    pub returned: BitsReturned,
+pub struct Factor {
     pub format: u8,
     pub value: [u8; 8],
 }
+
+// Why bits are turned away: another count, or a number of more bits.
+#[derive(Clone, Copy)]
+pub struct NotTwentySixBits;

@@ -1,56 +1,36 @@
 // The bits of a reader to the factor of a journal entry.
 ghost use Rattle.std.specs.Prelude.{◌≡◌};
-ghost use Rattle.wiegand.specs.Wiegand.{bits, facility_of, card_of, first_parity, last_parity, factor, reading_error, nothing_made, factor_of, read_wiegand26, returned_number};
+ghost use Rattle.wiegand.specs.Wiegand.{bits, facility_of, card_of, first_parity, last_parity, factor, reading_error, factor_of, read_wiegand26, returned_number};
 
-use crate::{BitsReturned, FORMAT_WIEGAND26, Reading, WIEGAND26_BITS, WIEGAND26_NUMBERS};
-use model::numbers::{FORMAT_ERROR, FORMAT_UNDEFINED};
+use crate::{FORMAT_WIEGAND26, Factor, NotTwentySixBits, WIEGAND26_BITS, WIEGAND26_NUMBERS};
+use model::numbers::FORMAT_ERROR;
 
 // The number of an outcome in document 02.
-pub fn number_of(r: BitsReturned) -> u32
-    ensures { result ≡ returned_number r }
+pub fn number_of(reading: Result<Factor, NotTwentySixBits>) -> u32
+    ensures { result ≡ returned_number reading }
 {
-    match r {
-        BitsReturned::WorkedThrough => 0,
-        BitsReturned::NotTwentySixBits => 17,
+    match reading {
+        Ok(_) => 0,
+        Err(NotTwentySixBits) => 17,
     }
 }
 
-fn nothing_made() -> Reading
-    ensures { result ≡ nothing_made }
-{
-    Reading {
-        returned: BitsReturned::NotTwentySixBits,
-        format: FORMAT_UNDEFINED,
-        value: [0; 8],
-    }
-}
-
-fn reading_error() -> Reading
+fn reading_error() -> Factor
     ensures { result ≡ reading_error }
 {
-    Reading {
-        returned: BitsReturned::WorkedThrough,
+    Factor {
         format: FORMAT_ERROR,
         value: [0; 8],
     }
 }
 
-fn factor(facility: u8, card: u16) -> Reading
+fn factor(facility: u8, card: u16) -> Factor
     ensures { result ≡ factor facility card }
 {
-    Reading {
-        returned: BitsReturned::WorkedThrough,
+    let [high, low] = card.to_be_bytes();
+    Factor {
         format: FORMAT_WIEGAND26,
-        value: [
-            0,
-            0,
-            0,
-            0,
-            0,
-            facility,
-            (card / 256) as u8,
-            (card % 256) as u8,
-        ],
+        value: [0, 0, 0, 0, 0, facility, high, low],
     }
 }
 
@@ -58,14 +38,14 @@ fn factor(facility: u8, card: u16) -> Reading
 fn has_first_parity(number: u32) -> bool
     ensures { result ≡ first_parity (bits 26 number) }
 {
-    u32::count_ones(number / 8192 % 8192) % 2 == 0
+    (number / 8192 % 8192).count_ones() % 2 == 0
 }
 
 // Whether the last 13 have an odd number.
 fn has_last_parity(number: u32) -> bool
     ensures { result ≡ last_parity (bits 26 number) }
 {
-    u32::count_ones(number % 8192) % 2 != 0
+    (number % 8192).count_ones() % 2 != 0
 }
 
 fn facility_of(number: u32) -> u8
@@ -81,7 +61,7 @@ fn card_of(number: u32) -> u16
 }
 
 // The factor of 26 bits.
-fn factor_of(number: u32) -> Reading
+fn factor_of(number: u32) -> Factor
     ensures { result ≡ factor_of (bits 26 number) }
 {
     if has_first_parity(number) & has_last_parity(number) {
@@ -91,11 +71,11 @@ fn factor_of(number: u32) -> Reading
 }
 
 // The bits, as one number with the first bit highest, and their count, to a factor. Turned away where they are not 26 bits.
-pub fn read_wiegand26(number: u64, count: u32) -> Reading
+pub fn read_wiegand26(number: u64, count: u32) -> Result<Factor, NotTwentySixBits>
     ensures { result ≡ read_wiegand26 number count }
 {
     if (count != WIEGAND26_BITS) | (number >= WIEGAND26_NUMBERS) {
-        return nothing_made();
+        return Err(NotTwentySixBits);
     }
-    factor_of(number as u32)
+    Ok(factor_of(number as u32))
 }

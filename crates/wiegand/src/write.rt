@@ -6,8 +6,8 @@ ghost use Rattle.wiegand.specs.Wiegand.{write_wiegand26};
 pub fn write_wiegand26(facility: u8, card: u16) -> u32
     ensures { result ≡ write_wiegand26 facility card }
 {
-    let between = (facility as u32) * 65536 + (card as u32);
-    let first = u32::count_ones(between / 4096) % 2;
-    let last = 1 - u32::count_ones(between % 4096) % 2;
+    let between = u32::from(facility) * 65536 + u32::from(card);
+    let first = (between / 4096).count_ones() % 2;
+    let last = 1 - (between % 4096).count_ones() % 2;
     first * 33554432 + between * 2 + last
 }

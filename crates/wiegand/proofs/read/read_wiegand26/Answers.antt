@@ -13,7 +13,7 @@ unfolding read_wiegand26
 returns-then-count-number c =
     let a = c.args in
     let t : not (eqb a.count 26) || leb 67108864 a.number ≡ true = c.if-count-number.true in
-    rw (c.nothing_made.ensures, t)
+    rw t
 
 pub overflow_cast-number : goal.overflow_cast-number
 overflow_cast-number c =
