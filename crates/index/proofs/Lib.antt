@@ -1,3 +1,4 @@
+pub mod Cases
 pub mod Walks
 pub mod Places
 pub mod Tags

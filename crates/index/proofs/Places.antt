@@ -1,5 +1,5 @@
 -- The place of the first record that passes a test: along the chain of its bucket, and among the records of its kind.
-use Rattle.std.specs.Prelude.{if◌then◌else◌, cond, Option, Some, None, position}
+use Rattle.std.specs.Prelude.{if◌then◌else◌, Option, Some, None, position}
 use Rattle.std.specs.List.{position_from}
 use Rattle.std.specs.Option.{option_map}
 use Rattle.std.proofs.lemmas.Iterator.Adapters.{position_from-zero}
@@ -18,7 +18,7 @@ use borrow.Author.Tests.{ltb-true, ltb-false}
 use Rattle.model.specs.Site.{kind}
 use Rattle.index.specs.Index.{kind_classes, bucket_of, record_of, ChainFrom, kind_class, next_in, OfBucket}
 use Rattle.index.specs.Place.{place_from}
-use Rattle.index.proofs.Walks.{left_turn, left_end, next_low, next_high, next_here, next_end, next_again, past, onward, chain_record}
+use Rattle.index.proofs.Walks.{left_turn, left_end, next_high, next_here, next_end, next_again, past, onward, chain_record}
 
 -- From where the last of a class was passed on there is none, nor where there is none at all.
 class_ends : (c last end : ℕ) (ss : List (List ℕ)) → (next_in kind_class c 0 ss < length ss → next_in kind_class c last ss ≡ length ss)

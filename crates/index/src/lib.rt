@@ -17,7 +17,6 @@ mod indexed; // indexed.rt: a site with its index, and the first record in it of
 
 pub use chain::Chain;
 pub use indexed::{IndexedSite, Sought};
-
 use model::layout::FACTOR_VALUE;
 use model::numbers::{ACCESS_RULE, AUTHENTICATION_FACTOR, MODULUS, ROLE_IDENTIFYING};
 use octets::Number;
@@ -69,6 +68,7 @@ pub struct Slot {
 }
 
 // The records of a site: its whole groups of 32 bytes.
+#[tactic(auto, unfolding(model::specs::Site::records))]
 pub fn records(site: &[u8]) -> &[Record]
     ensures { result.now ≡ records site.now }
 {
@@ -95,6 +95,7 @@ fn mixed(a: u32, b: u32, c: u32) -> usize
     (a as usize) * SPREAD_FIRST + (b as usize) * SPREAD_SECOND + (c as usize) * SPREAD_THIRD
 }
 
+#[tactic(auto, unfolding(crate::specs::Index::spread))]
 fn spread(a: u32, b: u32, c: u32, turn: u16) -> usize
     ensures { (result ≡ Index.spread a b c turn) × (result < buckets) }
 {
@@ -109,6 +110,7 @@ pub fn object_bucket(kind: u8, instance: u32) -> usize
 }
 
 // The class of the rules of a rights number at a location; everywhere is location 0 of kind 0.
+#[tactic(auto, unfolding(crate::specs::Index::rule_class))]
 pub fn rule_class(rights: u32, kind: u8, location: u32) -> usize
     ensures { (result ≡ rule_class rights kind location) × (result < rule_class_count) }
 {
@@ -138,6 +140,7 @@ pub fn value_bucket(format: u8, value: [u8; 8], owner: u32) -> usize
     factor_bucket(format, &value, 0, owner)
 }
 
+#[tactic(auto, unfolding(crate::specs::Index::owner))]
 fn owner_of(part: &Record) -> u32
     ensures { result ≡ Index.owner part.now }
 {
@@ -147,6 +150,7 @@ fn owner_of(part: &Record) -> u32
     instance_of(part)
 }
 
+#[tactic(auto, unfolding(crate::specs::Index::class_of_rule))]
 fn class_of_rule(part: &Record) -> usize
     ensures { (result ≡ Index.class_of_rule part.now) × (result < rule_class_count) }
 {
@@ -168,6 +172,7 @@ fn slot_of_rule(part: &Record) -> Slot
     }
 }
 
+#[tactic(auto, unfolding(crate::specs::Index::bucket_of, crate::specs::Index::mark_of))]
 fn slot_of_other(part: &Record) -> Slot
     requires { Site.kind part.now ≡ access_rule → ⊥ }
     ensures { Slotted part.now result }

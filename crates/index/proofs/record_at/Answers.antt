@@ -6,6 +6,3 @@ use Rattle.index.proofs.record_at.Goals as goal
 
 pub bounds-records-i : goal.bounds-records-i
 bounds-records-i c = omega (arith, ap length c.records.ensures)
-
-pub returns : goal.returns
-returns c = rw c.records.ensures
