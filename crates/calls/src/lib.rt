@@ -3,9 +3,9 @@
 
 ghost use Rattle.std.specs.Prelude.{◌≡◌, IfOk};
 ghost use Rattle.model.specs.Calls.{number, check_site, fresh_returned, fresh_result, fresh_state, check_state, run_returned, run_result, run_journal};
-ghost use Rattle.site.specs.Parts.{returned};
+ghost use Rattle.site.specs.Parts.{outcome};
 
-use index::{IndexedSite, UNBUILT, Words};
+use index::{INDEX_SIZE, IndexedSite, UNBUILT, Words};
 use model::Refusal;
 use model::numbers::{ANSWER_SIZE, ENTRY_SIZE, LARGEST_JOURNAL};
 
@@ -23,7 +23,7 @@ pub fn number_of(outcome: Result<(), Refusal>) -> u32
 pub fn check_site(site: &[u8]) -> Result<(), Refusal>
     ensures { result ≡ check_site site.now }
 {
-    let mut words = UNBUILT;
+    let mut words = [UNBUILT; INDEX_SIZE];
     site::check::check_site(site, &mut words)?;
     Ok(())
 }
@@ -34,7 +34,7 @@ fn fresh_checked<'a>(
     words: &'a mut Words,
     state: &[u8],
 ) -> Result<IndexedSite<'a>, Refusal>
-    ensures value { returned result ≡ fresh_returned site.now state.now }
+    ensures value { outcome result ≡ fresh_returned site.now state.now }
     ensures site { IfOk result (λ s. s ≡ site.now) }
 {
     let indexed = site::check::check_site(site, words)?;
@@ -48,7 +48,7 @@ fn fresh_checked<'a>(
 pub fn make_fresh(site: &[u8], state: &mut [u8]) -> Result<(), Refusal>
     ensures { fresh_result result state.new ≡ fresh_state site.now state.old }
 {
-    let mut words = UNBUILT;
+    let mut words = [UNBUILT; INDEX_SIZE];
     fresh_checked(site, &mut words, state)?;
     state::fresh::write_fresh_state(site, state);
     Ok(())
@@ -60,7 +60,7 @@ fn state_checked<'a>(
     words: &'a mut Words,
     state: &[u8],
 ) -> Result<IndexedSite<'a>, Refusal>
-    ensures value { returned result ≡ check_state site.now state.now }
+    ensures value { outcome result ≡ check_state site.now state.now }
     ensures site { IfOk result (λ s. s ≡ site.now) }
 {
     let indexed = fresh_checked(site, words, state)?;
@@ -74,7 +74,7 @@ fn state_checked<'a>(
 pub fn check_state(site: &[u8], state: &[u8]) -> Result<(), Refusal>
     ensures { result ≡ check_state site.now state.now }
 {
-    let mut words = UNBUILT;
+    let mut words = [UNBUILT; INDEX_SIZE];
     state_checked(site, &mut words, state)?;
     Ok(())
 }
@@ -87,7 +87,7 @@ fn run_checked<'a>(
     journal: &[u8],
     answers: &[u8],
 ) -> Result<IndexedSite<'a>, Refusal>
-    ensures value { returned result ≡ run_returned site.now state.now journal.now answers.now }
+    ensures value { outcome result ≡ run_returned site.now state.now journal.now answers.now }
     ensures site { IfOk result (λ s. s ≡ site.now) }
 {
     let indexed = state_checked(site, words, state)?;
@@ -109,7 +109,7 @@ pub fn work_through(
 ) -> Result<(), Refusal>
     ensures { run_result result state.new answers.new ≡ run_journal site.now state.old journal.now answers.old }
 {
-    let mut words = UNBUILT;
+    let mut words = [UNBUILT; INDEX_SIZE];
     let indexed = run_checked(site, &mut words, state, journal, answers)?;
     journal::run::run(&indexed, state, journal, answers);
     Ok(())

@@ -13,11 +13,11 @@ use index::IndexedSite;
 use model::numbers::NONE;
 use model::{CredentialId, Entry, Point, PointState, Situation};
 use records::Record;
-use site::object::Single;
+use site::object::{Object, Placed};
 use site::{Presented, indexed};
 
 // The place of what a reference names: NONE names nothing.
-fn seek<O: Single>(site: &IndexedSite, object: O) -> Option<usize>
+fn seek<O: Placed>(site: &IndexedSite, object: O) -> Option<usize>
     ensures { result ≡ seek_place O.KIND (O.instance object) site.now }
 {
     if object.instance() == NONE {

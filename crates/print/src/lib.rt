@@ -8,7 +8,7 @@ ghost use Rattle.std.specs.Prelude.{◌≡◌};
 ghost use Rattle.model.specs.Calls.{run_result};
 ghost use Rattle.print.specs.Print.{has_room, run_into, print_result, print_into};
 
-use model::Returned;
+use model::Refusal;
 use model::numbers::ENTRY_SIZE;
 use numbers::{LINE_SIZE, NUMBER_SIZE};
 
@@ -22,10 +22,10 @@ fn has_room(journal: &[u8], text: &[u8]) -> bool
 
 // Runs a journal from fresh, in the lent state and answers.
 #[tactic(auto, unfolding(crate::specs::Print::run_into))]
-fn run_into(site: &[u8], journal: &[u8], state: &mut [u8], answers: &mut [u8]) -> Returned
+fn run_into(site: &[u8], journal: &[u8], state: &mut [u8], answers: &mut [u8]) -> Result<(), Refusal>
     ensures { run_result result state.new answers.new ≡ run_into site.now journal.now state.old answers.old }
 {
-    view::fresh_state(site, state);
+    let _ = view::fresh_state(site, state);
     view::run_journal(site, state, journal, answers)
 }
 
@@ -42,9 +42,9 @@ pub fn print_journal(
     if !has_room(journal, text) {
         return None;
     }
-    let returned = run_into(site, journal, state, answers);
-    if calls::is_worked(returned) {
+    let outcome = run_into(site, journal, state, answers);
+    if outcome.is_ok() {
         return Some(lines::write_answers(answers, text));
     }
-    Some(lines::write_decimal_line(text, calls::number_of(returned)))
+    Some(lines::write_decimal_line(text, calls::number_of(outcome)))
 }
