@@ -2,8 +2,7 @@
 ghost use Rattle.std.specs.Prelude.{◌≡◌};
 ghost use Rattle.model.specs.Checks.{overdue, disabled_factor, disabled_event, first_of_two, authentication_of, authentication};
 
-use conditions::words::elapsed;
-use conditions::{is_still_locked, is_waiting};
+use conditions::{elapsed, is_still_locked, is_waiting};
 use model::{Authentication, Entry, Situation, numbers};
 
 // The second factor comes later than a set timeout.

@@ -2,7 +2,7 @@
 ghost use Rattle.std.specs.Prelude.{◌≡◌};
 ghost use Rattle.model.specs.Checks.{inactive, validity_of, validity};
 
-use conditions::words::elapsed;
+use conditions::elapsed;
 use model::{Entry, Situation, Validity, numbers};
 
 // Used before, and longer ago than the absentee days.

@@ -2,13 +2,18 @@
 #![tactic(auto)]
 
 ghost use Rattle.std.specs.Prelude.{◌≡◌};
+ghost use Rattle.model.specs.Checks as m;
 ghost use Rattle.model.specs.Checks.{relinquished, still_locked, waiting, into_zone, passback_violated};
-
-pub mod words; // words.rt: arithmetic, and the choice between two values
 
 use model::numbers::{NONE, SECONDS_OF_MINUTE};
 use model::{Entry, Situation};
-use words::elapsed;
+
+// The time from `since` to `now`, or 0 where now is earlier.
+pub fn elapsed(now: u32, since: u32) -> u32
+    ensures { result ≡ m.elapsed now since }
+{
+    now.saturating_sub(since)
+}
 
 // Step 1 unlocks the point: a set relinquish time has passed.
 #[tactic(auto, unfolding(model::specs::Checks::relinquished))]

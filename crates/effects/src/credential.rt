@@ -31,7 +31,7 @@ pub fn zone_after(v: Situation, x: u16) -> ZoneId
 pub fn uses_after(v: Situation, x: u16) -> u16
     ensures { result ≡ uses_after v x }
 {
-    if x == GRANTED && v.credential_state.uses != UNLIMITED {
+    if (x == GRANTED) & (v.credential_state.uses != UNLIMITED) {
         v.credential_state.uses.saturating_sub(1)
     } else {
         v.credential_state.uses

@@ -1,7 +1,7 @@
 // What an entry does, by value: what follows from the event that the order of checks came to, and the outcomes of the other operations.
 #![tactic(auto)]
 
-pub mod words; // words.rt: sums and differences of numbers
+pub mod words; // words.rt: tags, dates, counts up to a most
 pub mod point; // point.rt: failures, lockout and wait at the point
 pub mod credential; // credential.rt: uses, days and zone of the credential
 pub mod marks; // marks.rt: the credential that an answer names, and its marks

@@ -3,8 +3,7 @@ ghost use Rattle.std.specs.Prelude.{◌≡◌};
 ghost use Rattle.model.specs.Effects.{is_failure, failures_before, is_first_failure, failures_with, locks_out, point_after};
 
 use crate::words::{count_kept, next_tag};
-use conditions::words::elapsed;
-use conditions::{is_relinquished, is_still_locked};
+use conditions::{elapsed, is_relinquished, is_still_locked};
 use model::numbers::{
     DENIED_AUTHENTICATION_FACTOR_ERROR, DENIED_LOCKOUT, DENIED_UNKNOWN_CREDENTIAL, GRANTED,
     NO_EVENT, NONE,

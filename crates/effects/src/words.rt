@@ -23,7 +23,7 @@ pub fn date_of(time: u32) -> u32
 pub fn count_kept(granted: bool, failing: bool, most: u8, with: u16, before: u8) -> u8
     ensures { result ≡ if granted || failing && leb most with then 0 else if failing then with else before }
 {
-    if granted || failing && u16::from(most) <= with {
+    if granted | (failing & (u16::from(most) <= with)) {
         0
     } else if failing {
         with as u8

@@ -1,5 +1,5 @@
 -- What is looked up is in the bucket in which it is sought.
-use Rattle.std.specs.Prelude.{if◌then◌else◌}
+use Rattle.std.specs.Prelude.{if◌then◌else◌, Some, None}
 use Prim.Native.Nat.{ℕ}
 use mathlib.Core.Path.{◌≡◌, refl, sym, ap, ◌∙◌}
 use mathlib.Core.List.{List}
@@ -14,7 +14,7 @@ use Rattle.model.specs.Site.{kind, record_kind, instance, role, format, value, i
 use Rattle.model.specs.Checks.{presents, identifying, confirming}
 use Rattle.model.specs.Accept.{twin_factors, twins_as, twins}
 use Rattle.model.specs.declared.CredentialId.{CredentialId}
-use Rattle.model.specs.declared.RecordKind.TheVariants.{OfZone, OfPoint, OfCredential, OfUnknown}
+use Rattle.model.specs.declared.RecordKind.TheVariants.{OfZone, OfPoint, OfCredential}
 use Rattle.model.proofs.Laws.{and_left, and_right}
 use Rattle.index.specs.Index.{ByInstance, object_bucket, factor_bucket, owner, bucket_of}
 
@@ -104,7 +104,7 @@ twins_bucket s t e = sym (go (eqb (kind s) authentication_factor) refl (eqb (kin
     alike = eqb-true (kind s) (kind t) (and_left (eqb (kind s) (kind t)) alike_as e)
 
     -- Neither a rule nor a factor, whatever it is of the others.
-    object : (z p c : Bool) → twins_as (if z then OfZone else if p then OfPoint else if c then OfCredential else OfUnknown) s t ≡ eqb (instance s) (instance t)
+    object : (z p c : Bool) → twins_as (if z then Some OfZone else if p then Some OfPoint else if c then Some OfCredential else None) s t ≡ eqb (instance s) (instance t)
     object true p c = refl
     object false true c = refl
     object false false true = refl

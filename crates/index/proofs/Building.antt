@@ -2,15 +2,16 @@
 use Rattle.std.specs.Prelude.{if◌then◌else◌}
 use Prim.Native.Nat.{ℕ, ◌+◌, ◌*◌, ◌/◌, ◌≤◌, ◌<◌}
 use mathlib.Core.Path.{◌≡◌, refl, sym, ◌∙◌}
-use mathlib.Core.List.{List, []}
+use mathlib.Core.List.{List, [], ◌++◌}
 use mathlib.Core.Bool.{Bool, true, false}
 use native.Mathlib.Omega.{arith}
 use lib.Bits.{bit_or}
 use lib.Dec.{eqb}
-use lib.ListN.{length, drop, get_or, set, length-set}
-use lib.Seq.{get_or-set_same, get_or-set_other}
+use lib.ListN.{length, take, drop, get_or, get_or-append, set, replicate, length-drop, length-set}
+use lib.Seq.{get_or-set_same, get_or-set_other, length-take-le}
+use Rattle.std.proofs.lemmas.List.{get_or-append-add, get_or-replicate, length-replicate}
 use borrow.Author.Tests.{eqb-true, eqb-false, eq-eqb, ne_eqb}
-use Rattle.octets.proofs.Groups.{length_groups}
+use Rattle.octets.proofs.GroupLaws.{length_groups}
 use Rattle.model.specs.Site.{records}
 use Rattle.index.specs.Index.{most_records, buckets, kind_classes, index_size, chain_scale, bucket_of, mark_of, tags_of, chain_from, kind_class, next_in, head, kind_head, kind_last, link, IndexedFrom}
 use Rattle.index.proofs.Walks.{left_turn, left_end, next_high, next_turn, next_end}
@@ -20,19 +21,21 @@ pub length_records : (site : List ℕ) → length (records site) ≡ length site
 unfolding records
 length_records site = length_groups 32 (length site / 32) site
 
--- The heads that stand before the i-th number hold n.
-abbrev pub Emptied : ℕ → ℕ → List ℕ → Type 0
-Emptied n i index = (b : ℕ) → most_records + b < i → head b index ≡ n
+-- All heads hold n.
+abbrev pub Emptied : ℕ → List ℕ → Type 0
+Emptied n index = (b : ℕ) → most_records + b < index_size → head b index ≡ n
 
-pub emptied_more : (n i : ℕ) (index : List ℕ) → i < length index → Emptied n i index → Emptied n (i + 1) (set index i n)
-emptied_more n i index l h b m = go (eqb (most_records + b) i) refl
-  where
-    go : (c : Bool) → eqb (most_records + b) i ≡ c → head b (set index i n) ≡ n
-    go true e = rw (eqb-true (most_records + b) i e) (get_or-set_same index i n 0 l)
-    go false e = get_or-set_other index i (most_records + b) n 0 (eqb-false (most_records + b) i e) ∙ h b (other (eqb-false (most_records + b) i e))
-      where
-        other : (most_records + b ≡ i → ⊥) → most_records + b < i
-        other k = omega (arith, k)
+-- They do where all numbers from a place on were filled with n.
+filled_at : (n a k i d : ℕ) (links rest : List ℕ) → length links ≡ a → i < k → get_or (links ++ (replicate k n ++ rest)) (a + i) d ≡ n
+filled_at n a k i d links rest e h =
+    let l : length (replicate k n) ≡ k = length-replicate k n in
+    rw (← e, get_or-append-add links (replicate k n ++ rest) i d, get_or-append (replicate k n) rest d i (omega arith)) (get_or-replicate k i n d h)
+
+pub filled : (n k : ℕ) (index heads rest : List ℕ) → length index ≡ index_size → most_records + k ≡ index_size
+    → heads ≡ replicate (length (take k (drop most_records index))) n → Emptied n (take most_records index ++ (heads ++ rest))
+filled n k index heads rest size e f b h =
+    let m : length (take k (drop most_records index)) ≡ k = length-take-le k (drop most_records index) (simp length-drop (omega arith)) in
+    rw (f, m) (filled_at n most_records k b 0 (take most_records index) rest (length-take-le most_records index (omega arith)) (omega arith))
 
 -- A chain ends at the number of records. The i-th record is put before its own chain, and passed over by the others.
 chain_end : (b : ℕ) (ss : List (List ℕ)) → chain_from b (length ss) ss ≡ length ss
@@ -58,7 +61,7 @@ module _ (i : ℕ) (ss : List (List ℕ)) (h : i < length ss) where
   chain_other b n = rw (next_other bucket_of b n, left_turn ss i h, ne_eqb (bucket_of (get_or ss i [])) b n)
 
 -- No record yet: every bucket and every class of kinds is empty.
-pub emptied : (ss : List (List ℕ)) (index : List ℕ) → length index ≡ index_size → length ss ≤ most_records → Emptied (length ss) index_size index
+pub emptied : (ss : List (List ℕ)) (index : List ℕ) → length index ≡ index_size → length ss ≤ most_records → Emptied (length ss) index
     → IndexedFrom (length ss) ss index
 emptied ss index size few h =
     record {

@@ -1,4 +1,6 @@
+pub mod Cases
 pub mod Walks
+pub mod Places
 pub mod Tags
 pub mod Building
 pub mod Buckets

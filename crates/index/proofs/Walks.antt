@@ -1,18 +1,17 @@
--- Walks over the records of a site, one by one or along the chain of a bucket: what is left from the i-th record on decides.
+-- The records of a class, such as a bucket or a kind, from a number on; the chains of an index; what is left from the i-th record on.
 use Rattle.std.specs.Prelude.{if◌then◌else◌}
-use Prim.Native.Nat.{ℕ, zero, suc, ◌+◌, ◌-◌, ◌/◌, ◌%◌, ◌≤◌, ◌<◌}
+use Prim.Native.Nat.{ℕ, zero, suc, ◌+◌, ◌-◌, ◌/◌, ◌≤◌, ◌<◌}
 use mathlib.Core.Path.{◌≡◌, refl, sym, ◌∙◌}
 use mathlib.Core.List.{List, [], ◌∷◌}
-use mathlib.Core.Bool.{Bool, true, false, false≢true}
+use mathlib.Core.Bool.{Bool, true, false}
 use native.Mathlib.Nat.{add-zero}
 use native.Mathlib.Numerals.{add-one}
 use native.Mathlib.Omega.{arith}
 use lib.Dec.{eqb, ltb}
 use lib.ListN.{length, drop, get_or, drop_of_length-le, length-drop}
 use lib.Seq.{drop-cons, drop-drop, get_or-drop}
-use borrow.Author.Tests.{eqb-true, eqb-false, ne_eqb, ltb-true, ltb-false, lt-ltb}
-use Rattle.model.specs.Site.{kind}
-use Rattle.index.specs.Index.{buckets, kind_classes, bucket_of, tags_of, chain_from, chain_scale, record_of, kind_class, first_from, next_in, head, kind_head, kind_last, link, after, IndexedFrom}
+use borrow.Author.Tests.{eqb-true, eqb-false, ltb-true, ltb-false}
+use Rattle.index.specs.Index.{bucket_of, tags_of, chain_scale, record_of, first_from, next_in, ChainFrom}
 
 -- What is left from the i-th record on: that record, and what is left from the next one on; past the last, nothing.
 module _ (ss : List (List ℕ)) (i : ℕ) where
@@ -53,7 +52,7 @@ module _ (class : List ℕ → ℕ) where
     unfolding next_in
     next_high h = omega (arith, (found c i (drop i ss)).high, length-drop i ss)
 
-    next_here : next_in class c i ss < length ss → class (get_or ss (next_in class c i ss) []) ≡ c
+    pub next_here : next_in class c i ss < length ss → class (get_or ss (next_in class c i ss) []) ≡ c
     unfolding next_in
     next_here h =
         let f = found c i (drop i ss) in
@@ -112,39 +111,19 @@ pub record Chain (b : ℕ) (ss : List (List ℕ)) (chain : ℕ) : Type 0 where
   pub here : record_of chain < length ss → bucket_of (get_or ss (record_of chain) []) ≡ b
   pub tagged : chain / chain_scale ≡ tags_of b (drop (record_of chain) ss)
 
--- The chains of an index. The first record of each is the next of its bucket.
-module _ (k : ℕ) (ss : List (List ℕ)) (index : List ℕ) (x : IndexedFrom k ss index) where
-  module _ (b m chain : ℕ) (l : m ≤ length ss) (e : chain ≡ chain_from b m ss) where
-    chain_record : record_of chain ≡ next_in bucket_of b m ss
-    chain_record = omega (arith, x.few, next_high bucket_of b m ss l)
+-- The first record of a bucket's chain is the next of the bucket.
+module _ {b m : ℕ} {ss : List (List ℕ)} {chain : ℕ} (x : ChainFrom b m ss chain) (l : m ≤ length ss) where
+  pub chain_record : record_of chain ≡ next_in bucket_of b m ss
+  chain_record = omega (arith, x.is, x.few, next_high bucket_of b m ss l)
 
-    chain_at : Chain b ss chain
-    unfolding tags_of
-    chain_at =
-        let t : chain / chain_scale ≡ tags_of b (drop m ss) = omega (arith, x.few, next_high bucket_of b m ss l) in
-        record { here = rw chain_record (next_here bucket_of b m ss); tagged = t ∙ rw chain_record (skip bucket_of (λ j. tags_of b) b other m ss) }
-      where
-        other : (j : ℕ) (s : List ℕ) (ts : List (List ℕ)) → eqb (bucket_of s) b ≡ false → tags_of b (s ∷ ts) ≡ tags_of b ts
-        other j s ts n = rw n
-
-  pub head_record : (b : ℕ) → b < buckets → record_of (head b index) ≡ next_in bucket_of b k ss
-  head_record b l = chain_record b k (head b index) x.within (x.heads b l)
-
-  pub head_chain : (b : ℕ) → b < buckets → Chain b ss (head b index)
-  head_chain b l = chain_at b k (head b index) x.within (x.heads b l)
-
-  module _ (i : ℕ) (l : k ≤ i) (h : i < length ss) where
-    pub link_record : record_of (link i index) ≡ next_in bucket_of (bucket_of (get_or ss i [])) (i + 1) ss
-    link_record = chain_record (bucket_of (get_or ss i [])) (i + 1) (link i index) (omega arith) (x.links i l h)
-
-    pub link_chain : Chain (bucket_of (get_or ss i [])) ss (link i index)
-    link_chain = chain_at (bucket_of (get_or ss i [])) (i + 1) (link i index) (omega arith) (x.links i l h)
-
--- A walk over the records from the k-th on that has come to i: along the chain of a bucket, or, where that is left, over the records of a kind.
-pub record Walk {A : Type 0} (f : ℕ → List (List ℕ) → A) (b k : ℕ) (w : A) (ss : List (List ℕ)) (along : Bool) (i : ℕ) : Type 0 where
-  pub low : k ≤ i
-  pub here : along ≡ true → i < length ss → bucket_of (get_or ss i []) ≡ b
-  pub left : f i (drop i ss) ≡ w
+  pub chain_at : Chain b ss chain
+  unfolding tags_of
+  chain_at =
+      let t : chain / chain_scale ≡ tags_of b (drop m ss) = omega (arith, x.is, x.few, next_high bucket_of b m ss l) in
+      record { here = rw chain_record (next_here bucket_of b m ss); tagged = t ∙ rw chain_record (skip bucket_of (λ j. tags_of b) b other m ss) }
+    where
+      other : (j : ℕ) (s : List ℕ) (ts : List (List ℕ)) → eqb (bucket_of s) b ≡ false → tags_of b (s ∷ ts) ≡ tags_of b ts
+      other j s ts n = rw n
 
 -- What passes over each record that a test does not pass.
 module _ {A : Type 0} (f : ℕ → List (List ℕ) → A) (q : List ℕ → Bool)
@@ -166,82 +145,3 @@ module _ {A : Type 0} (f : ℕ → List (List ℕ) → A) (q : List ℕ → Bool
           go : (t : Bool) → q s ≡ t → t ≡ false
           go true p = absurd (eqb-false (class s) c e (has s p))
           go false p = refl
-
-  -- Only records of the bucket pass the test, and only records of the kind.
-  module _ (b : ℕ) (has : (s : List ℕ) → q s ≡ true → bucket_of s ≡ b) (k : ℕ) (index : List ℕ) (x : IndexedFrom k ss index) where
-    chained : {w : A} (m j : ℕ) (along : Bool) → k ≤ m → f m (drop m ss) ≡ w → j ≡ next_in bucket_of b m ss → Walk f b k w ss along j
-    chained m j along l p e =
-        let n : k ≤ next_in bucket_of b m ss = omega (arith, next_low bucket_of b m ss) in
-        rw e (record { low = n; here = λ t. next_here bucket_of b m ss; left = onward bucket_of b has m p })
-
-    pub walk_from : (along : Bool) (i : ℕ) → b < buckets → i ≡ record_of (head b index) → Walk f b k (f k (drop k ss)) ss along i
-    walk_from along i l e = chained k i along (omega arith) refl (e ∙ head_record k ss index x b l)
-
-    -- From the record at i, of the bucket, on to the next of it.
-    pub walk_on : {w : A} (along : Bool) (i j : ℕ) → i < length ss → k ≤ i → bucket_of (get_or ss i []) ≡ b → f (i + 1) (drop (i + 1) ss) ≡ w → j ≡ record_of (link i index)
-        → Walk f b k w ss along j
-    walk_on along i j h l m p e = chained (i + 1) j along (omega arith) p (e ∙ rw m at (link_record k ss index x i l h))
-
-    -- The record at i does not pass. A chain that was left is not taken up again.
-    pub walk_past : {w : A} (kd : ℕ) → ((s : List ℕ) → q s ≡ true → kind s ≡ kd) → (along next : Bool) (i j : ℕ) → (next ≡ true → along ≡ true)
-        → i < length ss → Walk f b k w ss along i → q (get_or ss i []) ≡ false → j ≡ after along kd i ss index → Walk f b k w ss next j
-    walk_past kd kinds true next i j o h y n e = walk_on next i j h y.low (y.here refl h) (past i h n y.left) e
-    walk_past kd kinds false next i j o h y n e =
-        let l : k ≤ next_in kind kd (i + 1) ss = omega (arith, y.low, next_low kind kd (i + 1) ss) in
-        rw e (record { low = l; here = λ t. absurd (false≢true (o t)); left = onward kind kd kinds (i + 1) (past i h n y.left) })
-
--- The next of a kind is the next from the next of its class on.
-by_class : (kd i : ℕ) (ss : List (List ℕ)) → next_in kind kd i ss ≡ next_in kind kd (next_in kind_class (kd % kind_classes) i ss) ss
-unfolding next_in first_from
-by_class kd i ss = skip kind_class (first_from kind kd) (kd % kind_classes) other i ss
-  where
-    other : (j : ℕ) (s : List ℕ) (ts : List (List ℕ)) → eqb (kind_class s) (kd % kind_classes) ≡ false → first_from kind kd j (s ∷ ts) ≡ first_from kind kd (suc j) ts
-    other j s ts e = rw (ne_eqb (kind s) kd (λ q. eqb-false (kind_class s) (kd % kind_classes) e (rw q refl)))
-
--- The next of a kind after the i-th is not before the first of its class.
-kind_after : (kd k i : ℕ) (ss : List (List ℕ)) → k ≤ i → i < next_in kind_class (kd % kind_classes) k ss
-    → next_in kind kd (i + 1) ss ≡ next_in kind kd (next_in kind_class (kd % kind_classes) k ss) ss
-kind_after kd k i ss l h =
-    let z : k + (i + 1 - k) ≡ i + 1 = omega arith in
-    let a : next_in kind_class (kd % kind_classes) (i + 1) ss ≡ next_in kind_class (kd % kind_classes) k ss = rw z at (next_again kind_class (kd % kind_classes) k ss (i + 1 - k) (omega arith)) in
-    rw a at (by_class kd (i + 1) ss)
-
-pub kind_later : (kd k i first : ℕ) (ss : List (List ℕ)) → k ≤ i → first ≡ next_in kind_class (kd % kind_classes) k ss
-    → next_in kind kd (if ltb first (i + 1) then i + 1 else first) ss ≡ next_in kind kd (i + 1) ss
-kind_later kd k i first ss l e = go (ltb first (i + 1)) refl
-  where
-    go : (t : Bool) → ltb first (i + 1) ≡ t → next_in kind kd (if t then i + 1 else first) ss ≡ next_in kind kd (i + 1) ss
-    go true q = refl
-    go false q = rw e (sym (kind_after kd k i ss l (omega (arith, ltb-false first (i + 1) q))))
-
--- After the last of its class there is none of a kind, nor where the class is empty.
-kind_end : (kd last i : ℕ) (ss : List (List ℕ)) → last ≤ i → i < length ss → next_in kind_class (kd % kind_classes) (last + 1) ss ≡ length ss
-    → next_in kind kd (i + 1) ss ≡ length ss
-kind_end kd last i ss l h e =
-    let z : last + 1 + (i - last) ≡ i + 1 = omega arith in
-    let a : next_in kind_class (kd % kind_classes) (i + 1) ss ≡ length ss = rw z at (next_again kind_class (kd % kind_classes) (last + 1) ss (i - last) (omega arith)) ∙ e in
-    rw a at (by_class kd (i + 1) ss) ∙ next_end kind kd (length ss) ss (omega arith)
-
-pub kind_past : (k : ℕ) (ss : List (List ℕ)) (index : List ℕ) → IndexedFrom k ss index → (kd i : ℕ) → k ≤ i → i < length ss → kind_last (kd % kind_classes) index ≤ i
-    → next_in kind kd (i + 1) ss ≡ length ss
-kind_past k ss index x kd i l h p = go (ltb (kind_head c index) (length ss)) refl
-  where
-    c : ℕ
-    c = kd % kind_classes
-
-    go : (t : Bool) → ltb (kind_head c index) (length ss) ≡ t → next_in kind kd (i + 1) ss ≡ length ss
-    go true q = kind_end kd (kind_last c index) i ss p h (x.lasts c (omega arith) (ltb-true (kind_head c index) (length ss) q))
-    go false q =
-        let e : next_in kind_class c k ss ≡ length ss =
-        omega (arith, ltb-false (kind_head c index) (length ss) q, x.kinds c (omega arith), next_high kind_class c k ss x.within) in
-        kind_after kd k i ss l (omega arith) ∙ rw e (next_end kind kd (length ss) ss (omega arith))
-
--- A walk goes on: the record that is tried next comes after the i-th.
-pub after_later : (k : ℕ) (ss : List (List ℕ)) (index : List ℕ) → IndexedFrom k ss index → (along : Bool) (kd i : ℕ) → k ≤ i → i < length ss
-    → i < after along kd i ss index
-after_later k ss index x true kd i l h = omega (arith, link_record k ss index x i l h, next_low bucket_of (bucket_of (get_or ss i [])) (i + 1) ss)
-after_later k ss index x false kd i l h = omega (arith, next_low kind kd (i + 1) ss)
-
--- Where so many links may be followed and one more, so many may.
-pub fewer_links : (links most : ℕ) → ltb (links + 1) most ≡ true → ltb links most ≡ true
-fewer_links links most e = lt-ltb links most (omega (arith, ltb-true (links + 1) most e))

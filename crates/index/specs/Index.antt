@@ -105,6 +105,11 @@ chain_from b k ss = next_in bucket_of b k ss + tags_of b (drop k ss) * chain_sca
 abbrev pub record_of : ℕ → ℕ
 record_of chain = chain % chain_scale
 
+-- The chain of a bucket from the k-th record on. The records are few, so that each one's number is below the scale.
+pub record ChainFrom (b k : ℕ) (ss : List (List ℕ)) (chain : ℕ) : Type 0 where
+  pub is : chain ≡ chain_from b k ss
+  pub few : length ss ≤ most_records
+
 -- The kinds are a class each.
 abbrev pub kind_class : List ℕ → ℕ
 kind_class s = kind s % kind_classes
@@ -122,10 +127,6 @@ kind_last c index = get_or index (most_records + buckets + kind_classes + c) 0
 abbrev pub link : ℕ → List ℕ → ℕ
 link i index = get_or index i 0
 
--- The record that a walk for a kind tries after the i-th: the next of its bucket, or the next of the kind.
-abbrev pub after : Bool → ℕ → ℕ → List (List ℕ) → List ℕ → ℕ
-after along k i ss index = if along then record_of (link i index) else next_in kind k (i + 1) ss
-
 -- The numbers of an index of the records from the k-th on: the chain of each bucket, the first and the last record of each class of kinds, and what
 -- follows each record in its bucket's chain. The number of records ends a chain.
 pub record IndexedFrom (k : ℕ) (ss : List (List ℕ)) (index : List ℕ) : Type 0 where
@@ -136,6 +137,11 @@ pub record IndexedFrom (k : ℕ) (ss : List (List ℕ)) (index : List ℕ) : Typ
   pub kinds : (c : ℕ) → c < kind_classes → kind_head c index ≡ next_in kind_class c k ss
   pub lasts : (c : ℕ) → c < kind_classes → kind_head c index < length ss → next_in kind_class c (kind_last c index + 1) ss ≡ length ss
   pub links : (i : ℕ) → k ≤ i → i < length ss → link i index ≡ chain_from (bucket_of (get_or ss i [])) (i + 1) ss
+
+-- The i-th record, where there is one, is of a bucket.
+pub record OfBucket (b i : ℕ) (ss : List (List ℕ)) : Type 0 where
+  pub high : i ≤ length ss
+  pub here : i < length ss → bucket_of (get_or ss i []) ≡ b
 
 -- The index of a site.
 abbrev pub Indexed : List ℕ → List ℕ → Type 0

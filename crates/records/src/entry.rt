@@ -1,10 +1,18 @@
 // Entries, read, and answers, as bytes.
-ghost use Rattle.std.specs.Prelude.{◌≡◌};
+ghost use Rattle.std.specs.Prelude.{◌≡◌, ◌+◌, ◌≤◌, length, take, drop};
 ghost use Rattle.model.specs.Entry.{entry_of, answer_bytes};
 
 use model::numbers::{ANSWER_SIZE, ENTRY_SIZE};
 use model::{Answer, Entry, layout};
 use octets::Number;
+
+// The eight bytes from an offset on, by value.
+pub fn eight(part: &[u8], at: usize) -> [u8; 8]
+    requires { at + 8 ≤ length part.now }
+    ensures { result ≡ take 8 (drop at part.now) }
+{
+    *part[at..].first_chunk().unwrap()
+}
 
 // The entry in its bytes.
 #[tactic(auto, unfolding(model::specs::Entry::entry_of))]
@@ -18,7 +26,7 @@ pub fn entry_of(part: &[u8; ENTRY_SIZE]) -> Entry
         time: u32::get(part, layout::ENTRY_TIME),
         instance: u32::get(part, layout::ENTRY_INSTANCE),
         amount: u32::get(part, layout::ENTRY_AMOUNT),
-        value: *part[layout::ENTRY_VALUE..].first_chunk().unwrap(),
+        value: eight(part, layout::ENTRY_VALUE),
     }
 }
 

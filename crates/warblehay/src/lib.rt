@@ -90,15 +90,12 @@ pub extern "C" fn warblehay_read_wiegand26(
     ensures { (result, format.new, value.new) ≡ numbered_reading (read_wiegand26 number count) format.old value.old }
 {
     let reading = wiegand::read::read_wiegand26(number, count);
-    let returned = reading.returned;
-    let outcome = wiegand::read::number_of(returned);
-    if outcome != 0 {
-        return outcome;
+    if let Ok(made) = reading {
+        *format = made.format;
+        let octets = made.value;
+        *value = octets;
     }
-    *format = reading.format;
-    let made = reading.value;
-    *value = made;
-    outcome
+    wiegand::read::number_of(reading)
 }
 
 // The way back.

@@ -9,6 +9,7 @@ use std::path::Path;
 const DOCUMENT: &str = "docs/PROMISES.md";
 const DEFINITIONS: &str = "crates/model/specs/InPlace.antt";
 const LAYOUT: &str = "crates/model/src/layout.rt";
+const STRUCTS: &str = "crates/model/src/lib.rt";
 
 /// The head of the document's table.
 const HEAD: &str = "| Reader | Offset | Width | Definition |\n";
@@ -16,20 +17,26 @@ const HEAD: &str = "| Reader | Offset | Width | Definition |\n";
 /// The modules of crates/records that read fields.
 const MODULES: [&str; 3] = ["site", "state", "entry"];
 
-/// What reads a part at an offset that it is given, with the number of its bytes.
-const PRIMITIVES: [(&str, usize); 8] = [
-    ("byte_at", 1),
-    ("short_at", 2),
-    ("long_at", 4),
+/// What reads a part at an offset that it is given, with the number of its bytes. `number_at` reads a
+/// number of the type that is wanted of it.
+const PRIMITIVES: [(&str, usize); 5] = [
     ("reference_at", 4),
     ("eight", 8),
-    ("octets::get_u8", 1),
-    ("octets::get_u16", 2),
-    ("octets::get_u32", 4),
+    ("u8::get", 1),
+    ("u16::get", 2),
+    ("u32::get", 4),
 ];
+const GENERIC: &str = "number_at";
+
+/// Types of numbers, with the number of their bytes.
+const NUMBERS: [(&str, usize); 3] = [("u8", 1), ("u16", 2), ("u32", 4)];
 
 /// The parameters of a reader: the part, and nothing else.
-const PART: &str = "part: &[u8]";
+const PARTS: [&str; 2] = ["part: &Record", "part: &[u8; ENTRY_SIZE]"];
+
+/// What a struct is read by: the function of this name of an impl of this trait.
+const TRAIT: &str = "impl FromRecord for ";
+const READ_BY: &str = "    fn from_record(part: &Record) -> ";
 
 /// Fewer would mean that the files are read wrongly.
 const FEWEST: usize = 70;
@@ -42,6 +49,9 @@ type Readers = BTreeMap<String, Place>;
 
 /// The offsets of the layout by their names.
 type Layout = BTreeMap<String, usize>;
+
+/// The types of members, by `Struct.member`.
+type Types = BTreeMap<String, String>;
 
 fn text_of(path: &str) -> String {
     let root = Path::new(env!("CARGO_MANIFEST_DIR")).join("../..");
@@ -58,20 +68,69 @@ fn add<T>(rows: &mut BTreeMap<String, T>, name: String, row: T) {
 struct Function<'a> {
     name: &'a str,
     parameters: &'a str,
+    result: &'a str,
     body: &'a str,
 }
 
+/// The text before and after the first place of what stands between them.
+fn split<'a>(text: &'a str, at: &str) -> (&'a str, &'a str) {
+    text.split_once(at)
+        .unwrap_or_else(|| panic!("no {at:?} in {text}"))
+}
+
+/// The impls of a code, each from its first word to its last line, and what stands around them.
+fn impls(code: &str) -> (Vec<&str>, String) {
+    let mut blocks = Vec::new();
+    let mut around = String::new();
+    let mut rest = code;
+    while let Some((before, after)) = rest.split_once("\nimpl") {
+        let (block, after) = split(after, "\n}\n");
+        blocks.push(block);
+        around.push_str(before);
+        around.push('\n');
+        rest = after;
+    }
+    around.push_str(rest);
+    (blocks, around)
+}
+
+/// The reader of a whole struct, under the name of its definition, if an impl is one's. In another
+/// impl there is none.
+fn struct_reader(block: &str) -> Option<Function<'_>> {
+    let whole = format!("impl{block}");
+    if !whole.starts_with(TRAIT) {
+        assert!(!block.contains("part: &"), "a reader in {block}");
+        return None;
+    }
+    let (_, rest) = split(block, "ghost of_record = { ");
+    let (name, rest) = split(rest, " };");
+    let (_, rest) = split(rest, READ_BY);
+    let (result, rest) = split(rest, " {\n");
+    let (body, rest) = split(rest, "\n    }");
+    assert!(!rest.contains("part: &"), "another reader in {block}");
+    Some(Function {
+        name,
+        parameters: PARTS[0],
+        result,
+        body,
+    })
+}
+
+/// The functions outside impls.
 fn functions(code: &str) -> Vec<Function<'_>> {
     let texts = code.split("fn ").skip(1);
     texts
         .map(|text| {
-            let (name, rest) = text.split_once('(').expect("parameters");
-            let (parameters, rest) = rest.split_once(')').expect("the parameters' end");
-            let (_, rest) = rest.split_once("\n{\n").expect("a body");
-            let (body, _) = rest.split_once("\n}").expect("the body's end");
+            let (name, rest) = split(text, "(");
+            let (parameters, rest) = split(rest, ")");
+            let (head, rest) = split(rest, "\n{\n");
+            let (body, _) = split(rest, "\n}");
+            let result = head.trim_start().strip_prefix("-> ").unwrap_or_default();
+            let result = result.lines().next().unwrap_or_default();
             Function {
                 name,
                 parameters,
+                result,
                 body,
             }
         })
@@ -87,11 +146,11 @@ fn width_of(primitive: &str) -> Option<usize> {
 /// it alone takes bytes out of the part, so that no field is read where this test does not look.
 fn is_reader(function: &Function) -> bool {
     let name = function.name;
-    if function.parameters == PART {
+    if PARTS.contains(&function.parameters) {
         assert!(!function.body.contains("part["), "{name} takes bytes");
         return true;
     }
-    let reads = function.parameters.contains("&[u8]");
+    let reads = function.parameters.contains("&[u8") || function.parameters.contains("&Record");
     let is_known = !reads || width_of(name).is_some();
     assert!(is_known, "{name} is no known primitive");
     false
@@ -103,8 +162,20 @@ fn called(text: &str) -> &str {
     text.rsplit(|c| !is_of_name(c)).next().unwrap_or(text)
 }
 
-/// The place that an expression reads by a primitive. A flag is read of the flags' byte.
-fn read_by_primitive(expression: &str, layout: &Layout) -> Place {
+/// The width of a number that is read by the type that is wanted: the expression is no more than the
+/// reading, so that its type is the one wanted.
+fn width_by_type(expression: &str, wanted: &str) -> usize {
+    let call = expression.trim();
+    let is_bare =
+        call.starts_with(GENERIC) && call.ends_with(')') && call.matches('(').count() == 1;
+    assert!(is_bare, "of what type: {expression}");
+    let found = NUMBERS.iter().find(|(number, _)| *number == wanted);
+    found.unwrap_or_else(|| panic!("{wanted} is no number")).1
+}
+
+/// The place that an expression reads by a primitive, where a value of a type is wanted. A flag is read
+/// of the flags' byte.
+fn read_by_primitive(expression: &str, wanted: &str, layout: &Layout) -> Place {
     let (before, after) = expression.split_once("(part, ")?;
     assert!(!after.contains("(part"), "read twice: {expression}");
     let primitive = called(before);
@@ -116,7 +187,11 @@ fn read_by_primitive(expression: &str, layout: &Layout) -> Place {
         layout.get(name)
     });
     let offset = name.unwrap_or_else(|| panic!("no offset of the layout: {expression}"));
-    let width = width_of(primitive).unwrap_or_else(|| panic!("no primitive: {expression}"));
+    let width = if primitive == GENERIC {
+        width_by_type(expression, wanted)
+    } else {
+        width_of(primitive).unwrap_or_else(|| panic!("no primitive: {expression}"))
+    };
     Some((*offset, width))
 }
 
@@ -168,12 +243,15 @@ fn with_whole_calls(code: &str) -> String {
 
 /// The functions that read a field by a primitive, and the members of structs that do or that make
 /// something of such a function's field.
-fn readers_in(code: &str, layout: &Layout) -> Readers {
-    let functions = Vec::from_iter(functions(code).into_iter().filter(is_reader));
+fn readers_in(code: &str, layout: &Layout, types: &Types) -> Readers {
+    let (impls, code) = impls(code);
+    let of_structs = impls.into_iter().filter_map(struct_reader);
+    let functions = functions(&code).into_iter().chain(of_structs);
+    let functions = Vec::from_iter(functions.filter(is_reader));
     let mut readers = Readers::new();
     let is_whole = |function: &&Function| members(function.body).is_empty();
     for function in functions.iter().filter(is_whole) {
-        let place = read_by_primitive(function.body, layout);
+        let place = read_by_primitive(function.body, function.result, layout);
         if place.is_some() {
             add(&mut readers, function.name.to_owned(), place);
         }
@@ -181,7 +259,8 @@ fn readers_in(code: &str, layout: &Layout) -> Readers {
     let alone = readers.clone();
     for function in &functions {
         for (member, filled) in members(function.body) {
-            let place = read_by_primitive(filled, layout);
+            let wanted = &types[&format!("{}.{member}", function.result)];
+            let place = read_by_primitive(filled, wanted, layout);
             let place = place.or_else(|| read_by_reader(filled, &alone));
             if place.is_some() {
                 add(&mut readers, format!("{}.{member}", function.name), place);
@@ -207,7 +286,9 @@ fn readers_outside(layout: &Layout) -> Readers {
     let (offset, _) = compared.split_once(',').expect("its offset");
     let range = text_of("crates/site/src/range.rt");
     let parameters = function(&range, "is_clear").parameters;
-    assert_eq!(parameters, format!("{PART}, at: usize, n: usize"));
+    let is_told =
+        parameters.starts_with("part: &") && parameters.ends_with(", at: usize, n: usize");
+    assert!(is_told, "{parameters}");
     Readers::from([
         ("site::lookup::has_value".into(), Some((layout[offset], 8))),
         ("site::range::is_clear".into(), None),
@@ -223,12 +304,32 @@ fn layout() -> Layout {
     constants.collect()
 }
 
+/// The types of the members of the model's structs.
+fn types() -> Types {
+    let text = text_of(STRUCTS);
+    let mut types = Types::new();
+    for text in text.split("pub struct ").skip(1) {
+        let (head, rest) = split(text, "\n");
+        let Some(name) = head.strip_suffix(" {") else {
+            continue;
+        };
+        let (members, _) = split(rest, "}");
+        for line in members.lines() {
+            let member = line.trim().strip_prefix("pub ").expect("a member");
+            let (member, of) = split(member.trim_end_matches(','), ": ");
+            add(&mut types, format!("{name}.{member}"), of.to_owned());
+        }
+    }
+    types
+}
+
 fn code() -> Readers {
     let layout = layout();
+    let types = types();
     let mut readers = readers_outside(&layout);
     for module in MODULES {
         let code = with_whole_calls(&text_of(&format!("crates/records/src/{module}.rt")));
-        for (name, place) in readers_in(&code, &layout) {
+        for (name, place) in readers_in(&code, &layout, &types) {
             add(&mut readers, format!("{module}::{name}"), place);
         }
     }

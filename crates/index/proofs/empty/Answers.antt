@@ -1,19 +1,13 @@
-use mathlib.Core.Path.{◌∙◌}
-use native.Mathlib.Omega.{arith}
-use borrow.Author.Rules.{rules}
-use Rattle.model.specs.Site.{records}
-use Rattle.index.proofs.Building.{emptied_more, emptied}
+-- Every head holds the number of records.
+use mathlib.Core.Path.{refl, ◌∙◌}
+use borrow.Rule.Slice.PartMut.{same_len_mid}
+use lib.ListN.{length}
+use Rattle.index.proofs.Building.{emptied, filled}
 use Rattle.index.proofs.empty.Goals as goal
-
-pub loop-i-init : goal.loop-i-init
-loop-i-init c = (c.record_count-end.ensures, search rules, search rules, search rules, λ b h. absurd (omega arith))
-
-pub loop-i-preserved : goal.loop-i-preserved
-loop-i-preserved c =
-    let l = c.loop-i in
-    (l.invariant.0, search rules, search rules, search rules, emptied_more c.record_count-end.result l.i l.index (omega arith) l.invariant.4)
 
 pub returns : goal.returns
 returns c =
-    let l = c.loop-i in
-    emptied (records c.args.site.now) l.index l.invariant.3 c.requires.0 (λ b h. l.invariant.4 b (omega arith) ∙ l.invariant.0)
+    let n = length c.args.records.now in
+    let f = c.fill.ensures.after (λ y k. k) in
+    let size = same_len_mid 2000 1040 c.args.words.now c.fill.new.self c.fill.ensures.len ∙ c.told-words in
+    emptied c.args.records.now _ size c.requires (filled n 1040 c.args.words.now c.fill.new.self _ c.told-words refl f)

@@ -1,12 +1,8 @@
--- A record is a group of 32 bytes.
+-- The record is one of the records.
+use mathlib.Core.Path.{ap}
 use native.Mathlib.Omega.{arith}
-use Rattle.model.specs.Site.{records}
-use Rattle.index.proofs.Building.{length_records}
+use lib.ListN.{length}
 use Rattle.index.proofs.record_at.Goals as goal
 
-pub group-requires : goal.group-requires
-group-requires c = omega (arith, length_records c.args.site.now)
-
-pub returns : goal.returns
-unfolding records
-returns c = c.group.ensures
+pub bounds-records-i : goal.bounds-records-i
+bounds-records-i c = omega (arith, ap length c.records.ensures)

@@ -9,7 +9,7 @@ use Rattle.index.proofs.slot_of_rule.Goals as goal
 pub returns : goal.returns
 unfolding bucket_of mark_of
 returns c =
-    let k = c.requires.1 in
+    let k = c.requires in
     let r = c.class_of_rule-class in
     let t = r.result % tags in
     let l : 2 ^ t < 32 = pow-lt {i = t} {j = 5} (omega arith) in

@@ -1,0 +1,18 @@
+-- The link of a record of the bucket is the next of it.
+use mathlib.Core.Path.{◌∙◌}
+use native.Mathlib.Omega.{arith}
+use Rattle.model.specs.Site.{records}
+use Rattle.index.proofs.Places.{place_chain, chain_of_bucket}
+use Rattle.index.proofs.indexed.IndexedSite.first_after.Goals as goal
+
+pub first_from-requires : goal.first_from-requires
+first_from-requires g c =
+    let a = c.args in
+    chain_of_bucket (g.S.Sought.fits a.sought) (records a.self.now) (g.met.S.Sought.of_bucket a.sought) (rw c.requires.of_bucket at c.link.ensures) (omega arith)
+    c.record.result c.record.ensures
+
+pub returns : goal.returns
+returns g c =
+    let a = c.args in
+    c.first_from.ensures ∙ place_chain (g.S.Sought.fits a.sought) (records a.self.now) (g.met.S.Sought.of_bucket a.sought) (rw c.requires.of_bucket at c.link.ensures) (omega arith)
+    c.record.result c.record.ensures
