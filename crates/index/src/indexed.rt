@@ -24,15 +24,18 @@ pub trait Sought: Copy {
     fn fits(self, part: &Record) -> bool
         ensures { result ≡ fits self part.now };
 
-    fn bucket(self) -> usize
-        ensures { (result ≡ bucket self) × (result < buckets) };
-
     fn kind(self) -> u8
         ensures { result ≡ kind self };
 
     ghost of_bucket: { (s : Self) (part : List ℕ) → fits s part ≡ true → bucket_of part ≡ bucket s };
 
     ghost of_kind: { (s : Self) (part : List ℕ) → fits s part ≡ true → Site.kind part ≡ kind s };
+}
+
+// What is sought from the first record of its bucket on.
+pub trait Keyed: Sought {
+    fn bucket(self) -> usize
+        ensures { (result ≡ Self.bucket self) × (result < buckets) };
 }
 
 // The place of the first of some records that is sought.
@@ -150,7 +153,7 @@ impl<'a> IndexedSite<'a> {
     }
 
     // The first record of what is sought.
-    pub fn first<S: Sought>(&self, sought: S) -> Option<usize>
+    pub fn first<S: Keyed>(&self, sought: S) -> Option<usize>
         ensures { result ≡ place_from (S.fits sought) 0 (records self.now) }
     {
         self.first_from(sought, self.head(sought.bucket()).record())

@@ -16,7 +16,7 @@ mod chain; // chain.rt: the records of a bucket from one on
 mod indexed; // indexed.rt: a site with its index, and the first record in it of what is sought
 
 pub use chain::Chain;
-pub use indexed::{IndexedSite, Sought};
+pub use indexed::{IndexedSite, Keyed, Sought};
 use model::layout::FACTOR_VALUE;
 use model::numbers::{ACCESS_RULE, AUTHENTICATION_FACTOR, MODULUS, ROLE_IDENTIFYING};
 use octets::Number;

@@ -169,7 +169,7 @@ pub struct Situation {
 }
 
 // What the rules of a credential say at a point and a time (step 9).
-#[derive(Clone, Copy)]
+#[derive(Clone, Copy, Default)]
 pub struct Verdict {
     pub negative_fits: bool,
     pub positive_fits: bool,

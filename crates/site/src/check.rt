@@ -1,47 +1,47 @@
 // The site check: refusals 1 to 4, each over the whole site before the next. It leaves the index of a site that is worked through.
-ghost use Rattle.std.specs.Prelude.{◌≡◌, true, ◌≤◌, length};
-ghost use Rattle.model.specs.Site.{records};
-ghost use Rattle.model.specs.Calls.{is_worked, check_site};
-ghost use Rattle.index.specs.Index.{most_records, index_size, Indexed};
-ghost use Rattle.site.specs.Parts.{records_returned};
+ghost use Rattle.std.specs.Prelude.{◌≡◌, ◌≤◌, length, IfOk, Ok, Err, if◌then◌else◌};
+ghost use Rattle.model.specs.Words.{all};
+ghost use Rattle.model.specs.Accept.{in_range};
+ghost use Rattle.model.specs.Calls.{check_site};
+ghost use Rattle.index.specs.Index.{most_records, IndexedFrom};
+ghost use Rattle.site.specs.Parts.{outcome};
 
 use super::{names, range, twins};
-use index::{record_at, record_count};
-use model::Returned;
+use index::{IndexedSite, Words};
+use model::Refusal;
 use model::numbers::{LARGEST_SITE, RECORD_SIZE};
+use records::Record;
 
-// Refusals 2 to 4. Ranges, twins and the index take one walk, from the last record to the first; that a record has a twin after it is kept for the
-// end, since a field out of range comes before.
-fn index_records(site: &[u8], index: &mut [u16]) -> Returned
-    requires { (length (records site.now) ≤ most_records) × (length index.old ≡ index_size) }
-    ensures { (result ≡ records_returned (records site.now)) × (is_worked result ≡ true → Indexed site.now index.new) }
+// Refusal 2. Ranges and the index take one walk, from the last record to the first.
+fn index_in_range(records: &[Record], words: &mut Words) -> Result<(), Refusal>
+    requires { length records.now ≤ most_records }
+    ensures value { result ≡ (if all in_range records.now then Ok tt else Err Refusal.SiteField) }
+    ensures built { IfOk result (λ u. IndexedFrom 0 records.now words.new) }
 {
-    index::empty(site, index);
-    let mut twice = false;
-    let mut i = record_count(site);
-    while 0 < i {
-        i -= 1;
-        if !range::in_range(record_at(site, i)) {
-            return Returned::SiteField;
+    index::empty(records, words);
+    for i in (0..records.len()).rev() {
+        if !range::in_range(&records[i]) {
+            return Err(Refusal::SiteField);
         }
-        index::insert(site, index, i);
-        twice = twins::has_twin_after(site, index, i) | twice;
+        index::insert(records, words, i);
     }
-    if twice {
-        return Returned::SiteTwice;
-    }
-    if !names::all_names_exist(site, index) {
-        return Returned::SiteMissing;
-    }
-    Returned::WorkedThrough
+    Ok(())
 }
 
-pub fn check_site(site: &[u8], index: &mut [u16]) -> Returned
-    requires { length index.old ≡ index_size }
-    ensures { (result ≡ check_site site.now) × (is_worked result ≡ true → Indexed site.now index.new) }
+pub fn check_site<'a>(site: &'a [u8], words: &'a mut Words) -> Result<IndexedSite<'a>, Refusal>
+    ensures value { outcome result ≡ check_site site.now }
+    ensures site { IfOk result (λ s. s ≡ site.now) }
 {
     if (site.len() % RECORD_SIZE != 0) | (LARGEST_SITE < site.len()) {
-        return Returned::SiteLength;
+        return Err(Refusal::SiteLength);
     }
-    index_records(site, index)
+    index_in_range(index::records(site), words)?;
+    let indexed = IndexedSite::new(site, words);
+    if twins::has_twins(&indexed) {
+        return Err(Refusal::SiteTwice);
+    }
+    if !names::all_names_exist(&indexed) {
+        return Err(Refusal::SiteMissing);
+    }
+    Ok(indexed)
 }

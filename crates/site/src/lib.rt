@@ -2,6 +2,7 @@
 // and a bare number stays inside this crate.
 #![tactic(auto)]
 
+pub mod object; // object.rt: what an instance numbers
 pub mod lookup; // lookup.rt: the record that a number names, and its place, on any slice
 pub mod indexed; // indexed.rt: the same by the index of the site
 pub mod range; // range.rt: whether a field is out of range
@@ -14,15 +15,7 @@ use model::CredentialId;
 // A factor as it is presented: to identify a credential, or to confirm this one.
 #[derive(Clone, Copy)]
 pub struct Presented {
-    pub confirms: bool,
-    pub credential: CredentialId,
+    pub confirms: Option<CredentialId>,
     pub format: u8,
     pub value: [u8; 8],
-}
-
-// Where a record stands among the records of a site.
-#[derive(Clone, Copy)]
-pub enum Place {
-    At(usize),
-    Nothing,
 }

@@ -1,5 +1,5 @@
 // Whether a field of a site is out of range (refusal 2).
-ghost use Rattle.std.specs.Prelude.{◌≡◌, ◌+◌, ◌≤◌, ◌<◌, length};
+ghost use Rattle.std.specs.Prelude.{◌≡◌, ◌+◌, ◌≤◌, length};
 ghost use Rattle.model.specs.Site.{record_kind};
 ghost use Rattle.model.specs.Accept.{clear, zone_in_range, point_in_range, location_in_range, rule_in_range, credential_in_range, factor_in_range, in_range_as, in_range};
 
@@ -8,56 +8,21 @@ use model::numbers::{
     MINUTES_OF_DAY, MODE_DENY_ALL, NONE, PASSBACK_SOFT, ROLE_CONFIRMING, ROLE_IDENTIFYING,
     TWO_FACTORS,
 };
-use model::{RecordKind, layout};
-use records::site;
+use model::{RecordKind, Zone, layout};
+use records::{FromRecord, Record, site};
 
-// Whether w bytes are zero, w being 0, 1, 2 or 4.
-fn is_word_clear(part: &[u8], at: usize, w: usize) -> bool
-    requires { (w < 5) × (w ≡ 3 → ⊥) × (at + w ≤ length part.now) }
-    ensures { result ≡ clear at w part.now }
-{
-    match w {
-        4 => octets::get_u32(part, at) == 0,
-        2 => octets::get_u16(part, at) == 0,
-        1 => octets::get_u8(part, at) == 0,
-        _ => true,
-    }
-}
-
-// Whether n bytes, fewer than 8, are zero: by 4, by 2 and by 1.
-fn is_rest_clear(part: &[u8], at: usize, n: usize) -> bool
-    requires { (n < 8) × (at + n ≤ length part.now) }
-    ensures { result ≡ clear at n part.now }
-{
-    let fours = n / 4 * 4;
-    let twos = n / 2 * 2;
-    is_word_clear(part, at, fours)
-        & is_word_clear(part, at + fours, twos - fours)
-        & is_word_clear(part, at + twos, n - twos)
-}
-
-// Whether n bytes are zero. Every record's check asks it, so it goes 8 bytes at a time.
+// Whether n bytes are zero.
 pub fn is_clear(part: &[u8], at: usize, n: usize) -> bool
     requires { at + n ≤ length part.now }
     ensures { result ≡ clear at n part.now }
 {
-    let mut i = at;
-    let mut left = n;
-    while 8 <= left {
-        if octets::get_u64(part, i) != 0 {
-            return false;
-        }
-        i += 8;
-        left -= 8;
-    }
-    is_rest_clear(part, i, left)
+    part[at..at + n].iter().fold(0, |all, b| all | b) == 0
 }
 
-fn zone_in_range(part: &[u8]) -> bool
-    requires { length part.now ≡ 32 }
+fn zone_in_range(part: &Record) -> bool
     ensures { result ≡ zone_in_range part.now }
 {
-    let z = site::zone_of(part);
+    let z = Zone::from_record(part);
     (site::flags_of(part) < layout::ZONE_FLAGS_END)
         & (z.passback <= PASSBACK_SOFT)
         & is_clear(part, layout::ZONE_SPARE_BYTE, 1)
@@ -65,8 +30,7 @@ fn zone_in_range(part: &[u8]) -> bool
 }
 
 // The fields of a point, and of a credential, are read one by one: the readers of the whole are too large to be inlined in two places.
-fn point_in_range(part: &[u8]) -> bool
-    requires { length part.now ≡ 32 }
+fn point_in_range(part: &Record) -> bool
     ensures { result ≡ point_in_range part.now }
 {
     let factors_wanted = site::factors_wanted_of(part);
@@ -83,8 +47,7 @@ fn point_in_range(part: &[u8]) -> bool
 }
 
 // A rule's location: none where the rule is for everywhere, else a zone or a point.
-fn location_in_range(part: &[u8]) -> bool
-    requires { length part.now ≡ 32 }
+fn location_in_range(part: &Record) -> bool
     ensures { result ≡ location_in_range part.now }
 {
     let kind = site::location_kind_of(part);
@@ -95,20 +58,18 @@ fn location_in_range(part: &[u8]) -> bool
     ((ACCESS_ZONE <= kind) & (kind <= ACCESS_POINT)) & (location < NONE)
 }
 
-fn rule_in_range(part: &[u8]) -> bool
-    requires { length part.now ≡ 32 }
+fn rule_in_range(part: &Record) -> bool
     ensures { result ≡ rule_in_range part.now }
 {
     (site::flags_of(part) < layout::RULE_FLAGS_END)
         & (site::weekdays_of(part) < layout::RULE_DAYS_END)
         & location_in_range(part)
-        & ((site::from_minute_of(part) as u32) <= MINUTES_OF_DAY)
-        & ((site::to_minute_of(part) as u32) <= MINUTES_OF_DAY)
+        & (u32::from(site::from_minute_of(part)) <= MINUTES_OF_DAY)
+        & (u32::from(site::to_minute_of(part)) <= MINUTES_OF_DAY)
         & is_clear(part, layout::RULE_SPARE, layout::RULE_SPARE_SIZE)
 }
 
-fn credential_in_range(part: &[u8]) -> bool
-    requires { length part.now ≡ 32 }
+fn credential_in_range(part: &Record) -> bool
     ensures { result ≡ credential_in_range part.now }
 {
     (site::flags_of(part) < layout::CREDENTIAL_FLAGS_END)
@@ -119,8 +80,7 @@ fn credential_in_range(part: &[u8]) -> bool
         & (site::second_rights_of(part).0 <= NONE)
 }
 
-fn factor_in_range(part: &[u8]) -> bool
-    requires { length part.now ≡ 32 }
+fn factor_in_range(part: &Record) -> bool
     ensures { result ≡ factor_in_range part.now }
 {
     let role = site::role_of(part);
@@ -136,26 +96,21 @@ fn factor_in_range(part: &[u8]) -> bool
         & is_clear(part, layout::FACTOR_SPARE, layout::FACTOR_SPARE_SIZE)
 }
 
-fn fields_in_range(part: &[u8]) -> bool
-    requires { length part.now ≡ 32 }
+fn fields_in_range(part: &Record) -> bool
     ensures { result ≡ in_range_as (record_kind part.now) part.now }
 {
     match site::record_kind_of(part) {
-        RecordKind::OfZone => zone_in_range(part),
-        RecordKind::OfPoint => point_in_range(part),
-        RecordKind::OfRule => rule_in_range(part),
-        RecordKind::OfCredential => credential_in_range(part),
-        RecordKind::OfFactor => factor_in_range(part),
-        RecordKind::OfUnknown => false,
+        Some(RecordKind::OfZone) => zone_in_range(part),
+        Some(RecordKind::OfPoint) => point_in_range(part),
+        Some(RecordKind::OfRule) => rule_in_range(part),
+        Some(RecordKind::OfCredential) => credential_in_range(part),
+        Some(RecordKind::OfFactor) => factor_in_range(part),
+        None => false,
     }
 }
 
-pub(crate) fn in_range(part: &[u8]) -> bool
-    requires { length part.now ≡ 32 }
+pub(crate) fn in_range(part: &Record) -> bool
     ensures { result ≡ in_range part.now }
 {
-    if NONE <= site::instance_of(part) {
-        return false;
-    }
-    fields_in_range(part)
+    site::instance_of(part) < NONE && fields_in_range(part)
 }
