@@ -10,7 +10,7 @@ use lib.ListN.{length, take, drop, get_or, set, length-append, length-take, leng
 use lib.Seq.{take_at, drop_at, take-add, drop-drop, length-take-le}
 use borrow.Author.Tests.{ltb-true, lt-ltb}
 use Rattle.octets.specs.Octets.{groups, with_part}
-use Rattle.octets.proofs.Groups.{joined_back}
+use Rattle.octets.proofs.GroupLaws.{joined_back}
 use Rattle.model.specs.Numbers.{NONE}
 use Rattle.model.specs.State.{Pair, paired, panel, state_of, find, seek, store, write, zone_bytes, point_bytes, credential_bytes}
 use Rattle.model.specs.Step.{write_of, apply}

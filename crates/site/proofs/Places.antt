@@ -6,7 +6,7 @@ use mathlib.Core.List.{List, [], ◌∷◌}
 use mathlib.Core.Bool.{Bool, true, false}
 use native.Mathlib.Omega.{arith}
 use lib.ListN.{length, get_or}
-use Rattle.octets.proofs.Groups.{length_group}
+use Rattle.octets.proofs.GroupLaws.{length_group}
 use Rattle.model.specs.Site.{records, is_at, find_in, lookup}
 use Rattle.model.specs.Accept.{exists}
 use Rattle.index.proofs.Building.{length_records}

@@ -5,7 +5,7 @@ use mathlib.Core.List.{List, [], ◌∷◌}
 use lib.ListN.{length, get_or, take, drop}
 use Rattle.std.specs.Simd.{first_chunks}
 use Rattle.octets.specs.Octets.{groups, with_part}
-use Rattle.octets.proofs.Groups.{length_groups}
+use Rattle.octets.proofs.GroupLaws.{length_groups}
 use Rattle.octets.proofs.Written.{written_start, written_step, written_end, head_length}
 use Rattle.model.specs.Lists.{answers_in}
 use Rattle.model.specs.Print.{hex_line, answers_text}
