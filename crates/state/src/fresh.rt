@@ -1,4 +1,6 @@
 // The fresh state of a site: a state record for each site record, in file order.
+#![tactic(auto, unfolding(model::specs::State::fresh_record, model::specs::State::fresh_credential))]
+
 ghost use Rattle.std.specs.Prelude.{◌≡◌, ◌%◌, length};
 ghost use Rattle.model.specs.State.{fresh_record, fresh};
 

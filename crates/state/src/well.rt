@@ -1,4 +1,6 @@
 // Whether a state is well formed: each state record beside its site record, in a site.
+#![tactic(auto, unfolding(model::specs::State::zone_well, model::specs::State::below_most, model::specs::State::point_well, model::specs::State::credential_well, model::specs::State::record_well))]
+
 ghost use Rattle.std.specs.Prelude.{◌≡◌, length};
 ghost use Rattle.model.specs.Site.{records};
 ghost use Rattle.model.specs.State.{zone_well, below_most, point_well, credential_well, record_well, well_formed};
