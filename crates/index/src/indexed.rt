@@ -46,6 +46,7 @@ fn place_among<S: Sought>(records: &[Record], sought: S) -> Option<usize>
 }
 
 // A site whose records are all in its index, seen as its bytes.
+#[derive(Drop)]
 pub struct IndexedSite<'a> {
     site: &'a [u8],
     words: &'a Words,

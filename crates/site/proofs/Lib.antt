@@ -1,8 +1,5 @@
-pub mod Cases
 pub mod Records
 pub mod RecordKinds
-pub mod Searches
-pub mod Sought
 pub mod Places
 pub mod Panels
 pub mod Values

@@ -1,5 +1,5 @@
 -- A record's place is its place in the panel: what is found stands there, and what is written is written there.
-use Rattle.std.specs.Prelude.{if◌then◌else◌}
+use Rattle.std.specs.Prelude.{if◌then◌else◌, Option, Some, None}
 use Prim.Native.Nat.{ℕ, suc, ◌-◌, ◌≤◌}
 use mathlib.Core.Path.{◌≡◌, refl, ap}
 use mathlib.Core.List.{List, [], ◌∷◌}
@@ -8,29 +8,28 @@ use native.Mathlib.Omega.{arith}
 use lib.ListN.{get_or, set}
 use Rattle.model.specs.Site.{records, is_at}
 use Rattle.model.specs.State.{Panel, sites, find, store}
-use Rattle.site.specs.Place.{place_from, place_of}
-use Rattle.site.specs.declared.Place.{Place}
-use Rattle.site.specs.declared.Place.TheVariants.{At, Nothing}
+use Rattle.index.specs.Place.{place_from}
+use Rattle.site.specs.Place.{place_of}
 
 -- What a place says of a panel, the first pair of it counted as `from`, when `b` is written.
-unfoldable Held : ℕ → ℕ → List ℕ → ℕ → Panel → Place → Type 0
-Held k i b from ps (At j) =
+unfoldable Held : ℕ → ℕ → List ℕ → ℕ → Panel → Option ℕ → Type 0
+Held k i b from ps (Some j) =
     (from ≤ j) × (find k i ps ≡ get_or ps (j - from) ([], [])) × (store k i b ps ≡ set ps (j - from) ((get_or ps (j - from) ([], [])).0, b))
-Held k i b from ps Nothing = (find k i ps ≡ ([], [])) × (store k i b ps ≡ ps)
+Held k i b from ps None = (find k i ps ≡ ([], [])) × (store k i b ps ≡ ps)
 
 held : (k i : ℕ) (b : List ℕ) (from : ℕ) (ps : Panel) → Held k i b from ps (place_from (is_at k i) from (sites ps))
 unfolding Held place_from find store
 held k i b from [] = (refl, refl)
 held k i b from (x ∷ xs) = go (is_at k i x.0) refl (held k i b (suc from) xs)
   where
-    later : (p : Place) → is_at k i x.0 ≡ false → Held k i b (suc from) xs p → Held k i b from (x ∷ xs) p
-    later (At j) e h =
+    later : (p : Option ℕ) → is_at k i x.0 ≡ false → Held k i b (suc from) xs p → Held k i b from (x ∷ xs) p
+    later (Some j) e h =
         let d : j - from ≡ suc (j - suc from) = omega (arith, h.0) in
         (omega (arith, h.0), rw (e, d) h.1, rw (e, d) (ap (λ ys. x ∷ ys) h.2))
-    later Nothing e h = (rw e h.0, rw e (ap (λ ys. x ∷ ys) h.1))
+    later None e h = (rw e h.0, rw e (ap (λ ys. x ∷ ys) h.1))
 
     go : (c : Bool) → is_at k i x.0 ≡ c → Held k i b (suc from) xs (place_from (is_at k i) (suc from) (sites xs)) →
-        Held k i b from (x ∷ xs) (if c then At from else place_from (is_at k i) (suc from) (sites xs))
+        Held k i b from (x ∷ xs) (if c then Some from else place_from (is_at k i) (suc from) (sites xs))
     go true e h = let d : from - from ≡ 0 = omega arith in (omega arith, rw (e, d), rw (e, d))
     go false e h = later (place_from (is_at k i) (suc from) (sites xs)) e h
 
@@ -39,24 +38,24 @@ module _ (k i : ℕ) (site : List ℕ) (ps : Panel) (same_site : sites ps ≡ re
   unfolding place_of
   here b = rw same_site at (held k i b 0 ps)
 
-  pub find_at : (j : ℕ) → place_of k i site ≡ At j → find k i ps ≡ get_or ps j ([], [])
+  pub find_at : (j : ℕ) → place_of k i site ≡ Some j → find k i ps ≡ get_or ps j ([], [])
   unfolding Held
   find_at j e =
-      let h : Held k i [] 0 ps (At j) = rw e at (here []) in
+      let h : Held k i [] 0 ps (Some j) = rw e at (here []) in
       let z : j - 0 ≡ j = omega arith in
       rw z at h.1
 
-  pub store_at : (b : List ℕ) (j : ℕ) → place_of k i site ≡ At j → store k i b ps ≡ set ps j ((get_or ps j ([], [])).0, b)
+  pub store_at : (b : List ℕ) (j : ℕ) → place_of k i site ≡ Some j → store k i b ps ≡ set ps j ((get_or ps j ([], [])).0, b)
   unfolding Held
   store_at b j e =
-      let h : Held k i b 0 ps (At j) = rw e at (here b) in
+      let h : Held k i b 0 ps (Some j) = rw e at (here b) in
       let z : j - 0 ≡ j = omega arith in
       rw z at h.2
 
-  pub find_nowhere : place_of k i site ≡ Nothing → find k i ps ≡ ([], [])
+  pub find_nowhere : place_of k i site ≡ None → find k i ps ≡ ([], [])
   unfolding Held
-  find_nowhere e = let h : Held k i [] 0 ps Nothing = rw e at (here []) in h.0
+  find_nowhere e = let h : Held k i [] 0 ps None = rw e at (here []) in h.0
 
-  pub store_nowhere : (b : List ℕ) → place_of k i site ≡ Nothing → store k i b ps ≡ ps
+  pub store_nowhere : (b : List ℕ) → place_of k i site ≡ None → store k i b ps ≡ ps
   unfolding Held
-  store_nowhere b e = let h : Held k i b 0 ps Nothing = rw e at (here b) in h.1
+  store_nowhere b e = let h : Held k i b 0 ps None = rw e at (here b) in h.1

@@ -6,19 +6,19 @@ use mathlib.Core.Logic.{◌⊎◌, inl, inr}
 use Rattle.model.specs.declared.RecordKind.{RecordKind}
 
 -- A kind is one of these.
-abbrev pub Among : List Option RecordKind → Option RecordKind → Type 0
+abbrev pub Among : List (Option RecordKind) → Option RecordKind → Type 0
 Among [] k = ⊥
 Among (j ∷ []) k = k ≡ j
 Among (j ∷ i ∷ js) k = (k ≡ j) ⊎ Among (i ∷ js) k
 
 module _ {A : Type 0} (g : Option RecordKind → A) (r : A) where
   -- For each of these kinds the outcome is r.
-  abbrev pub Each : List Option RecordKind → Type 0
+  abbrev pub Each : List (Option RecordKind) → Type 0
   Each [] = Unit
   Each (j ∷ js) = (r ≡ g j) × Each js
 
   -- And so it is for one of them.
-  pub kind_among : (js : List Option RecordKind) → Each js → (k : Option RecordKind) → Among js k → r ≡ g k
+  pub kind_among : (js : List (Option RecordKind)) → Each js → (k : Option RecordKind) → Among js k → r ≡ g k
   kind_among [] es k h = absurd h
   kind_among (j ∷ []) es k h = es.0 ∙ ap g (sym h)
   kind_among (j ∷ i ∷ js) es k (inl e) = es.0 ∙ ap g (sym e)

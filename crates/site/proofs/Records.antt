@@ -1,17 +1,19 @@
 -- The records of a site: what is found of them or is not, what passes, and what a rule in range names.
-use Rattle.std.specs.Prelude.{if◌then◌else◌, Some}
+use Rattle.std.specs.Prelude.{if◌then◌else◌, cond, Some, None, find}
+use Rattle.std.specs.Option.{unwrap_or}
 use Prim.Native.Nat.{ℕ, zero, suc, ◌+◌, ◌*◌, ◌/◌, ◌≤◌, ◌<◌}
-use mathlib.Core.Path.{◌≡◌, refl}
+use Rattle.std.specs.List.{list_all}
+use mathlib.Core.Path.{◌≡◌, refl, ap}
 use mathlib.Core.List.{List, [], ◌∷◌}
-use mathlib.Core.Bool.{Bool, true, false, ◌||◌, and-false}
+use mathlib.Core.Bool.{Bool, true, false, ◌&&◌, ◌||◌, and-false}
 use native.Mathlib.Omega.{arith}
 use lib.Dec.{eqb, eqb-suc-zero}
 use lib.ListN.{length, take, drop, get_or, length-drop}
 use lib.Seq.{length-take-le}
 use Rattle.octets.specs.Octets.{groups}
 use Rattle.model.specs.Words.{missing, any, all}
-use Rattle.model.specs.Numbers.{access_zone, access_point}
-use Rattle.model.specs.Site.{record_kind, instance, everywhere, location_kind, records, find_in}
+use Rattle.model.specs.Numbers.{access_zone, access_point, access_rule}
+use Rattle.model.specs.Site.{kind, record_kind, instance, everywhere, location_kind, records, find_in}
 use Rattle.model.specs.Accept.{real, rule_in_range, in_range_as, in_range, twins, twice}
 use Rattle.model.specs.declared.RecordKind.TheVariants.{OfRule}
 use Rattle.model.proofs.Laws.{and_left, and_right}
@@ -39,12 +41,33 @@ pub found_whole : (q : List ℕ → Bool) (site : List ℕ) → missing (find_in
 unfolding records
 found_whole q site m = whole q (length site / 32) site (omega arith) m
 
+-- What the library finds.
+module _ (q : List ℕ → Bool) where
+  find_is : (ss : List (List ℕ)) → unwrap_or (find q ss) [] ≡ find_in q ss
+  find_is [] = refl
+  find_is (s ∷ ss) = go (q s) (find_is ss)
+    where
+      go : (c : Bool) → unwrap_or (find q ss) [] ≡ find_in q ss → unwrap_or (cond c (Some s) (find q ss)) [] ≡ if c then s else find_in q ss
+      go true h = refl
+      go false h = h
+
+  pub find_found : (ss : List (List ℕ)) (s : List ℕ) → Some s ≡ find q ss → s ≡ find_in q ss
+  find_found ss s e = rw (← e) at (find_is ss)
+
+  pub find_none : (ss : List (List ℕ)) → None ≡ find q ss → [] ≡ find_in q ss
+  find_none ss e = rw (← e) at (find_is ss)
+
 -- Where every record passes, the i-th does; where one does not, not every one does.
 module _ (q : List ℕ → Bool) where
-  pub all_at : (ss : List (List ℕ)) → all q ss ≡ true → (i : ℕ) → i < length ss → q (get_or ss i []) ≡ true
-  all_at [] h i l = elim l [ ]
-  all_at (s ∷ ss) h zero l = and_left (q s) (all q ss) h
-  all_at (s ∷ ss) h (suc i) l = all_at ss (and_right (q s) (all q ss) h) i (omega arith)
+  pub all_at : (ss : List (List ℕ)) → all q ss ≡ true → (i : ℕ) (s : List ℕ) → i < length ss → q (get_or ss i s) ≡ true
+  all_at [] h i d l = elim l [ ]
+  all_at (s ∷ ss) h zero d l = and_left (q s) (all q ss) h
+  all_at (s ∷ ss) h (suc i) d l = all_at ss (and_right (q s) (all q ss) h) i d (omega arith)
+
+  -- What the library's `all` answers.
+  pub all_is : (ss : List (List ℕ)) → list_all q ss ≡ all q ss
+  all_is [] = refl
+  all_is (s ∷ ss) = ap (λ c. q s && c) (all_is ss)
 
   pub all_not : (ss : List (List ℕ)) (i : ℕ) → i < length ss → q (get_or ss i []) ≡ false → all q ss ≡ false
   all_not [] i l h = elim l [ ]
@@ -56,6 +79,12 @@ pub twice_turn : (ss : List (List ℕ)) (i : ℕ) → i < length ss
     → twice (drop i ss) ≡ any (twins (get_or ss i [])) (drop (i + 1) ss) || twice (drop (i + 1) ss)
 unfolding twice
 twice_turn ss i h = rw (left_turn ss i h)
+
+-- A rule has no twin.
+pub rule_alone : (s : List ℕ) (ss : List (List ℕ)) → kind s ≡ access_rule → any (twins s) ss ≡ false
+unfolding twins
+rule_alone s [] k = refl
+rule_alone s (t ∷ ss) k = rw (k, and-false) (rule_alone s ss k)
 
 -- A rule in range: a location that is not a zone is a point.
 pub rule_in_range_law : (s : List ℕ) → in_range s ≡ true → record_kind s ≡ (Some OfRule) → rule_in_range s ≡ true

@@ -1,3 +1,4 @@
 pub mod Place
 pub mod Factor
+pub mod Sought
 pub mod Parts

@@ -1,5 +1,5 @@
 // The site check: refusals 1 to 4, each over the whole site before the next. It leaves the index of a site that is worked through.
-ghost use Rattle.std.specs.Prelude.{◌≡◌, ◌≤◌, length, IfOk, Ok, Err, if◌then◌else◌};
+ghost use Rattle.std.specs.Prelude.{◌≡◌, ◌≤◌, length, true, false, IfOk, MatchResult};
 ghost use Rattle.model.specs.Words.{all};
 ghost use Rattle.model.specs.Accept.{in_range};
 ghost use Rattle.model.specs.Calls.{check_site};
@@ -15,8 +15,7 @@ use records::Record;
 // Refusal 2. Ranges and the index take one walk, from the last record to the first.
 fn index_in_range(records: &[Record], words: &mut Words) -> Result<(), Refusal>
     requires { length records.now ≤ most_records }
-    ensures value { result ≡ (if all in_range records.now then Ok tt else Err Refusal.SiteField) }
-    ensures built { IfOk result (λ u. IndexedFrom 0 records.now words.new) }
+    ensures { MatchResult result (λ u. (all in_range records.now ≡ true) × IndexedFrom 0 records.now words.new) (λ r. (all in_range records.now ≡ false) × (r ≡ Refusal.SiteField)) }
 {
     index::empty(records, words);
     for i in (0..records.len()).rev() {

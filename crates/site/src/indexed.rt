@@ -5,6 +5,9 @@ ghost use Rattle.model.specs.Site.{records, is_at, find_in};
 ghost use Rattle.model.specs.Accept as Accept;
 ghost use Rattle.index.specs.Index.{object_bucket};
 ghost use Rattle.site.specs.Place.{place_of};
+ghost use Rattle.model.proofs.Laws.{kind_at};
+ghost use Rattle.index.proofs.Buckets.{object_bucket_law};
+ghost use Rattle.site.specs.Sought.{fits_bucket, fits_kind};
 ghost use Rattle.site.specs.Factor.{fits as fits_presented, presented_bucket};
 
 use super::Presented;
@@ -25,9 +28,9 @@ impl<O: Placed> Sought for RecordOf<O> {
 
     ghost kind = { λ s. O.KIND };
 
-    ghost of_bucket = { ? };
+    ghost of_bucket = { λ s part e. object_bucket_law O.KIND (O.instance s.0) O.by_instance part e };
 
-    ghost of_kind = { ? };
+    ghost of_kind = { λ s part e. kind_at O.KIND (O.instance s.0) part e };
 
     fn fits(self, part: &Record) -> bool {
         is_at(part, self.0)
@@ -52,9 +55,9 @@ impl Sought for Presented {
 
     ghost kind = { λ p. authentication_factor };
 
-    ghost of_bucket = { ? };
+    ghost of_bucket = { fits_bucket };
 
-    ghost of_kind = { ? };
+    ghost of_kind = { fits_kind };
 
     fn fits(self, part: &Record) -> bool {
         is_fitting(part, self)
@@ -65,6 +68,7 @@ impl Sought for Presented {
     }
 }
 
+#[tactic(auto, unfolding(crate::specs::Factor::presented_bucket))]
 impl Keyed for Presented {
     fn bucket(self) -> usize {
         let owner = match self.confirms {
@@ -76,6 +80,7 @@ impl Keyed for Presented {
 }
 
 // The place of the record of an object.
+#[tactic(auto, unfolding(crate::specs::Place::place_of))]
 pub fn place_of<O: Placed>(site: &IndexedSite, object: O) -> Option<usize>
     ensures { result ≡ place_of O.KIND (O.instance object) site.now }
 {
@@ -89,6 +94,7 @@ pub fn exists<O: Placed>(site: &IndexedSite, object: O) -> bool
 }
 
 // Whether a reference is NONE or names an object that exists: NONE is not looked up.
+#[tactic(auto, unfolding(model::specs::Accept::none_or_exists))]
 pub fn none_or_exists<O: Placed>(site: &IndexedSite, object: O) -> bool
     ensures { result ≡ Accept.none_or_exists (records site.now) O.KIND (O.instance object) }
 {

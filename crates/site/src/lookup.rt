@@ -36,10 +36,7 @@ pub fn place_of<O: Object>(site: &[u8], object: O) -> Option<usize>
 pub fn find<O: Object>(site: &[u8], object: O) -> &[u8]
     ensures { result.now ≡ lookup O.KIND (O.instance object) site.now }
 {
-    match index::records(site)
-        .iter()
-        .find(|part| is_at(part, object))
-    {
+    match index::records(site).iter().find(|part| is_at(part, object)) {
         Some(part) => part,
         None => &[],
     }
@@ -62,12 +59,14 @@ fn has_value(part: &Record, value: [u8; 8]) -> bool
 }
 
 // Whether a factor has a format and a value.
+#[tactic(auto, unfolding(model::specs::Checks::presents))]
 fn is_presented(part: &Record, format: u8, value: [u8; 8]) -> bool
     ensures { result ≡ presents format value part.now }
 {
     (format_of(part) == format) & has_value(part, value)
 }
 
+#[tactic(auto, unfolding(model::specs::Checks::identifying))]
 fn is_identifying(part: &Record, format: u8, value: [u8; 8]) -> bool
     ensures { result ≡ identifying format value part.now }
 {
@@ -75,6 +74,7 @@ fn is_identifying(part: &Record, format: u8, value: [u8; 8]) -> bool
         && (role_of(part) == ROLE_IDENTIFYING) & is_presented(part, format, value)
 }
 
+#[tactic(auto, unfolding(model::specs::Checks::confirming))]
 fn is_confirming(part: &Record, credential: CredentialId, format: u8, value: [u8; 8]) -> bool
     ensures { result ≡ confirming credential format value part.now }
 {
@@ -83,6 +83,7 @@ fn is_confirming(part: &Record, credential: CredentialId, format: u8, value: [u8
 }
 
 // Whether a factor fits what is presented; the lookup by the index shares it.
+#[tactic(auto, unfolding(crate::specs::Factor::fits))]
 pub(crate) fn is_fitting(part: &Record, p: Presented) -> bool
     ensures { result ≡ fits p part.now }
 {

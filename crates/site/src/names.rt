@@ -19,8 +19,7 @@ use records::site::{
 fn zones_exist(site: &IndexedSite, part: &Record) -> bool
     ensures { result ≡ names_exist_as (Some OfPoint) (records site.now) part.now }
 {
-    none_or_exists(site, zone_to_of(part))
-        & none_or_exists(site, zone_from_of(part))
+    none_or_exists(site, zone_to_of(part)) & none_or_exists(site, zone_from_of(part))
 }
 
 // In range the location kinds are those of zone and point.
@@ -38,6 +37,7 @@ fn location_exists(site: &IndexedSite, part: &Record) -> bool
 }
 
 // Whether what a record names is there: a point's zones, a rule's location, a factor's credential.
+#[tactic(auto, unfolding(model::specs::Accept::names_exist))]
 fn names_exist(site: &IndexedSite, part: &Record) -> bool
     requires { in_range part.now ≡ true }
     ensures { result ≡ Accept.names_exist (records site.now) part.now }
@@ -54,10 +54,5 @@ pub(crate) fn all_names_exist(site: &IndexedSite) -> bool
     requires { all in_range (records site.now) ≡ true }
     ensures { result ≡ all (Accept.names_exist (records site.now)) (records site.now) }
 {
-    for part in site.records() {
-        if !names_exist(site, part) {
-            return false;
-        }
-    }
-    true
+    site.records().iter().all(|part| names_exist(site, part))
 }

@@ -36,7 +36,7 @@ impl Object for ZoneId {
 }
 
 impl Placed for ZoneId {
-    ghost by_instance = { ? };
+    ghost by_instance = { (λ e. Prim.cc, λ e. Prim.cc) };
 }
 
 impl Object for PointId {
@@ -52,7 +52,7 @@ impl Object for PointId {
 }
 
 impl Placed for PointId {
-    ghost by_instance = { ? };
+    ghost by_instance = { (λ e. Prim.cc, λ e. Prim.cc) };
 }
 
 impl Object for CredentialId {
@@ -68,7 +68,7 @@ impl Object for CredentialId {
 }
 
 impl Placed for CredentialId {
-    ghost by_instance = { ? };
+    ghost by_instance = { (λ e. Prim.cc, λ e. Prim.cc) };
 }
 
 // A rights number numbers its rules, of which there may be many.

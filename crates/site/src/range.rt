@@ -19,6 +19,7 @@ pub fn is_clear(part: &[u8], at: usize, n: usize) -> bool
     part[at..at + n].iter().fold(0, |all, b| all | b) == 0
 }
 
+#[tactic(auto, unfolding(model::specs::Accept::zone_in_range))]
 fn zone_in_range(part: &Record) -> bool
     ensures { result ≡ zone_in_range part.now }
 {
@@ -30,6 +31,7 @@ fn zone_in_range(part: &Record) -> bool
 }
 
 // The fields of a point, and of a credential, are read one by one: the readers of the whole are too large to be inlined in two places.
+#[tactic(auto, unfolding(model::specs::Accept::point_in_range))]
 fn point_in_range(part: &Record) -> bool
     ensures { result ≡ point_in_range part.now }
 {
@@ -58,6 +60,7 @@ fn location_in_range(part: &Record) -> bool
     ((ACCESS_ZONE <= kind) & (kind <= ACCESS_POINT)) & (location < NONE)
 }
 
+#[tactic(auto, unfolding(model::specs::Accept::rule_in_range))]
 fn rule_in_range(part: &Record) -> bool
     ensures { result ≡ rule_in_range part.now }
 {
@@ -69,6 +72,7 @@ fn rule_in_range(part: &Record) -> bool
         & is_clear(part, layout::RULE_SPARE, layout::RULE_SPARE_SIZE)
 }
 
+#[tactic(auto, unfolding(model::specs::Accept::credential_in_range))]
 fn credential_in_range(part: &Record) -> bool
     ensures { result ≡ credential_in_range part.now }
 {
@@ -80,6 +84,7 @@ fn credential_in_range(part: &Record) -> bool
         & (site::second_rights_of(part).0 <= NONE)
 }
 
+#[tactic(auto, unfolding(model::specs::Accept::factor_in_range))]
 fn factor_in_range(part: &Record) -> bool
     ensures { result ≡ factor_in_range part.now }
 {
@@ -109,6 +114,7 @@ fn fields_in_range(part: &Record) -> bool
     }
 }
 
+#[tactic(auto, unfolding(model::specs::Accept::in_range))]
 pub(crate) fn in_range(part: &Record) -> bool
     ensures { result ≡ in_range part.now }
 {

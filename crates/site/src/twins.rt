@@ -6,6 +6,8 @@ ghost use Rattle.model.specs.Site.{record_kind, records};
 ghost use Rattle.model.specs.Accept as Accept;
 ghost use Rattle.model.specs.Accept.{twins_as, twice};
 ghost use Rattle.index.specs.Index.{bucket_of};
+ghost use Rattle.index.proofs.Buckets.{twins_bucket};
+ghost use Rattle.site.specs.Sought.{twins_kind};
 
 use super::lookup::same_eight;
 use index::{IndexedSite, Sought};
@@ -16,6 +18,7 @@ use records::Record;
 use records::site::{format_of, instance_of, kind_of, record_kind_of, role_of};
 
 // Two factors: identifying ones alike in format and value, confirming ones also in credential. Most that come here differ in their values, so that the credential is seldom read.
+#[tactic(auto, unfolding(model::specs::Accept::twin_factors))]
 fn twin_factors(s: &Record, t: &Record) -> bool
     ensures { result ≡ Accept.twin_factors s.now t.now }
 {
@@ -38,6 +41,7 @@ fn are_alike(s: &Record, t: &Record) -> bool
 }
 
 // The kinds are compared first: most pairs differ there.
+#[tactic(auto, unfolding(model::specs::Accept::twins))]
 fn twins(s: &Record, t: &Record) -> bool
     ensures { result ≡ Accept.twins s.now t.now }
 {
@@ -55,9 +59,9 @@ impl<'a> Sought for TwinOf<'a> {
 
     ghost kind = { λ s. Site.kind s.0.now };
 
-    ghost of_bucket = { ? };
+    ghost of_bucket = { λ s part e. twins_bucket s.0.now part e };
 
-    ghost of_kind = { ? };
+    ghost of_kind = { λ s part e. twins_kind s.0.now part e };
 
     fn fits(self, part: &Record) -> bool {
         twins(self.0, part)

@@ -1,17 +1,8 @@
 -- It has a place, or is missing.
-use mathlib.Core.Path.{sym}
-use Rattle.site.proofs.Places.{place_exists, place_exists_not}
+use Rattle.std.specs.Option.{is_some}
+use Rattle.site.proofs.Places.{place_tells}
+use mathlib.Core.Path.{ap, ◌∙◌}
 use Rattle.site.proofs.indexed.exists.Goals as goal
 
-pub place_of-requires : goal.place_of-requires
-place_of-requires c = c.requires
-
-pub returns-in-At : goal.returns-in-At
-returns-in-At c =
-    let a = c.args in
-    sym (place_exists a.kind a.instance c.in-At.field-0 a.site.now (cc))
-
-pub returns-in-Nothing : goal.returns-in-Nothing
-returns-in-Nothing c =
-    let a = c.args in
-    sym (place_exists_not a.kind a.instance a.site.now (cc))
+pub returns : goal.returns
+returns g c = c.is_some.ensures ∙ ap is_some c.place_of.ensures ∙ place_tells g.O.Object.KIND (g.O.Object.instance c.args.object) c.args.site.now

@@ -1,30 +1,28 @@
-use native.Mathlib.Omega.{arith}
-use Rattle.site.specs.Factor.{fits}
-use Rattle.site.proofs.Searches.{find_search, chain_first, chain_within, chain_less, chain_hit, chain_pass, chain_end}
-use Rattle.site.proofs.Sought.{factor_sought}
+-- The record at its place.
 use Rattle.site.proofs.indexed.find_factor.Goals as goal
+use mathlib.Core.Path.{ap, sym, ◌∙◌}
+use native.Mathlib.Omega.{arith}
+use lib.ListN.{length}
+use Rattle.model.specs.Site.{records}
+use Rattle.site.specs.Factor.{fits}
+use Rattle.site.proofs.Places.{found_at, found_nowhere}
 
-pub first_of-i-requires : goal.first_of-i-requires
-first_of-i-requires c = (c.requires.size, c.presented_bucket.ensures.1)
+pub returns-in_err-i : goal.returns-in_err-i
+returns-in_err-i c =
+    let n = found_nowhere (fits c.args.p) (records c.args.site.now) (sym c.first.ensures ∙ c.in_err-i.was) in
+    rw c.from_residual.ensures n
 
-pub loop-i-init : goal.loop-i-init
-loop-i-init c =
-    let b = c.presented_bucket.ensures in
-    chain_first (factor_sought c.args.p) c.requires c.record_count-n.ensures b.0 b.1 c.first_of-i.ensures
+pub offset_bounds-records-i : goal.offset_bounds-records-i
+offset_bounds-records-i c =
+    let f = found_at (fits c.args.p) (records c.args.site.now) c.in_ok-i.i (sym c.first.ensures ∙ c.in_ok-i.was) in
+    omega (arith, f.0)
 
-pub returns-then-is_fitting : goal.returns-then-is_fitting
-returns-then-is_fitting c =
-    chain_hit (find_search (fits c.args.p)) c.loop-i.invariant (omega arith) c.record_at-part.ensures.0 c.is_fitting.ensures c.if-is_fitting.true
-
-pub after-i-requires : goal.after-i-requires
-after-i-requires c = chain_within c.requires c.loop-i.invariant (omega arith)
-
-pub loop-i-preserved : goal.loop-i-preserved
-loop-i-preserved c =
-    chain_pass (factor_sought c.args.p) c.requires c.loop-i.invariant (omega arith) (c.after-i.ensures 0 (omega arith) c.requires) c.record_at-part.ensures.0 c.is_fitting.ensures c.if-is_fitting.false
+pub bounds-records-i : goal.bounds-records-i
+bounds-records-i c =
+    let f = found_at (fits c.args.p) (records c.args.site.now) c.in_ok-i.i (sym c.first.ensures ∙ c.in_ok-i.was) in
+    omega (arith, f.0, ap length c.records.ensures.value)
 
 pub returns : goal.returns
-returns c = chain_end (find_search (fits c.args.p)) c.loop-i.invariant (omega arith)
-
-pub loop-i-smaller : goal.loop-i-smaller
-loop-i-smaller c = chain_less (factor_sought c.args.p) c.requires c.loop-i.invariant (omega arith) (c.after-i.ensures 0 (omega arith) c.requires)
+returns c =
+    let f = found_at (fits c.args.p) (records c.args.site.now) c.in_ok-i.i (sym c.first.ensures ∙ c.in_ok-i.was) in
+    rw c.records.ensures.value f.1

@@ -1,19 +1,26 @@
--- The record at the place, or the empty part.
-use mathlib.Core.Path.{sym, ◌∙◌}
-use Rattle.site.proofs.Places.{place_found, place_missing}
+-- What the library's search gives.
+use mathlib.Core.Path.{◌≡◌}
+use Rattle.std.specs.Prelude.{find}
+use Rattle.std.specs.Option.{option_map}
+use Rattle.std.proofs.Common.{rules, tests}
+use Rattle.std.proofs.lemmas.Iterator.{YieldsList-from_slice}
+use Rattle.std.proofs.lemmas.Iterator.Search.{find_from_yields_List}
+use Rattle.model.specs.Site.{records, is_at, lookup}
+use Rattle.site.proofs.Records.{find_found, find_none}
 use Rattle.site.proofs.lookup.find.Goals as goal
 
-pub record_at-requires : goal.record_at-requires
-record_at-requires c =
-    let a = c.args in
-    (place_found a.kind a.instance c.in-At.i a.site.now (cc)).0
+pub returns-in-Some : goal.returns-in-Some
+unfolding lookup
+returns-in-Some g c =
+    let q = is_at g.O.Object.KIND (g.O.Object.instance c.args.object) in
+    let e : option_map (λ r. r.now) c.find.result ≡ find q c.records.result.now =
+    find_from_yields_List q _ _ c.find.result c.find.ensures.ran (YieldsList-from_slice _ c.iter.ensures.rest) (λ x b q k. search (rules, tests)) in
+    find_found q (records c.args.site.now) c.in-Some.part.now (rw (c.records.ensures, c.in-Some.is) at e)
 
-pub returns-in-At : goal.returns-in-At
-returns-in-At c =
-    let a = c.args in
-    c.record_at.ensures.0 ∙ (place_found a.kind a.instance c.in-At.i a.site.now (cc)).1
-
-pub returns-in-Nothing : goal.returns-in-Nothing
-returns-in-Nothing c =
-    let a = c.args in
-    sym (place_missing a.kind a.instance a.site.now (cc))
+pub returns-in-None : goal.returns-in-None
+unfolding lookup
+returns-in-None g c =
+    let q = is_at g.O.Object.KIND (g.O.Object.instance c.args.object) in
+    let e : option_map (λ r. r.now) c.find.result ≡ find q c.records.result.now =
+    find_from_yields_List q _ _ c.find.result c.find.ensures.ran (YieldsList-from_slice _ c.iter.ensures.rest) (λ x b q k. search (rules, tests)) in
+    find_none q (records c.args.site.now) (rw (c.records.ensures, c.in-None.is) at e)

@@ -1,20 +1,25 @@
-use mathlib.Core.Path.{refl}
-use mathlib.Core.List.{[]}
-use native.Mathlib.Omega.{arith}
+-- What the library's search gives.
+use mathlib.Core.Path.{◌≡◌}
+use Rattle.std.specs.Prelude.{find}
+use Rattle.std.specs.Option.{option_map}
+use Rattle.std.proofs.Common.{rules, tests}
+use Rattle.std.proofs.lemmas.Iterator.{YieldsList-from_slice}
+use Rattle.std.proofs.lemmas.Iterator.Search.{find_from_yields_List}
+use Rattle.model.specs.Site.{records}
 use Rattle.site.specs.Factor.{fits}
-use Rattle.site.proofs.Searches.{searched_hit, searched_pass, searched_end, find_search}
+use Rattle.site.proofs.Records.{find_found, find_none}
 use Rattle.site.proofs.lookup.find_factor.Goals as goal
 
-pub loop-i-init : goal.loop-i-init
-loop-i-init c = record { count = c.record_count-n.ensures; left = refl }
+pub returns-in-Some : goal.returns-in-Some
+returns-in-Some c =
+    let q = fits c.args.p in
+    let e : option_map (λ r. r.now) c.find.result ≡ find q c.records.result.now =
+    find_from_yields_List q _ _ c.find.result c.find.ensures.ran (YieldsList-from_slice _ c.iter.ensures.rest) (λ x b q k. search (rules, tests)) in
+    find_found q (records c.args.site.now) c.in-Some.part.now (rw (c.records.ensures, c.in-Some.is) at e)
 
-pub returns-then-is_fitting : goal.returns-then-is_fitting
-returns-then-is_fitting c =
-    searched_hit (find_search (fits c.args.p)) [] c.loop-i.invariant (omega arith) c.record_at-part.ensures.0 c.is_fitting.ensures c.if-is_fitting.true
-
-pub loop-i-preserved : goal.loop-i-preserved
-loop-i-preserved c =
-    searched_pass (find_search (fits c.args.p)) [] c.loop-i.invariant (omega arith) c.record_at-part.ensures.0 c.is_fitting.ensures c.if-is_fitting.false
-
-pub returns : goal.returns
-returns c = searched_end (find_search (fits c.args.p)) [] c.loop-i.invariant (omega arith)
+pub returns-in-None : goal.returns-in-None
+returns-in-None c =
+    let q = fits c.args.p in
+    let e : option_map (λ r. r.now) c.find.result ≡ find q c.records.result.now =
+    find_from_yields_List q _ _ c.find.result c.find.ensures.ran (YieldsList-from_slice _ c.iter.ensures.rest) (λ x b q k. search (rules, tests)) in
+    find_none q (records c.args.site.now) (rw (c.records.ensures, c.in-None.is) at e)

@@ -1,21 +1,16 @@
-use mathlib.Core.Path.{refl}
-use mathlib.Core.List.{[]}
-use native.Mathlib.Omega.{arith}
+-- What the library's search gives.
+use mathlib.Core.Path.{◌∙◌}
+use Rattle.std.proofs.Common.{rules, tests}
+use Rattle.std.proofs.lemmas.Iterator.{YieldsList-from_slice}
+use Rattle.std.proofs.lemmas.Iterator.Search.{position_from_yields_List}
+use Rattle.model.specs.Site.{is_at}
+use Rattle.index.proofs.Places.{place_position}
 use Rattle.site.specs.Place.{place_of}
-use Rattle.site.proofs.Searches.{searched_hit, searched_pass, searched_end, place_search}
 use Rattle.site.proofs.lookup.place_of.Goals as goal
 
-pub loop-i-init : goal.loop-i-init
-unfolding place_of
-loop-i-init c = record { count = c.record_count-n.ensures; left = refl }
-
-pub returns-then-is_at : goal.returns-then-is_at
-returns-then-is_at c =
-    searched_hit (place_search _) [] c.loop-i.invariant (omega arith) c.record_at.ensures.0 c.is_at.ensures c.if-is_at.true
-
-pub loop-i-preserved : goal.loop-i-preserved
-loop-i-preserved c =
-    searched_pass (place_search _) [] c.loop-i.invariant (omega arith) c.record_at.ensures.0 c.is_at.ensures c.if-is_at.false
-
 pub returns : goal.returns
-returns c = searched_end (place_search _) [] c.loop-i.invariant (omega arith)
+unfolding place_of
+returns g c =
+    let q = is_at g.O.Object.KIND (g.O.Object.instance c.args.object) in
+    let e = position_from_yields_List q _ _ c.position.result c.position.ensures.ran (YieldsList-from_slice _ c.iter.ensures.rest) (λ x b q k. search (rules, tests)) in
+    e ∙ place_position q c.records.result.now ∙ rw c.records.ensures

@@ -1,31 +1,27 @@
-use Prim.Native.Nat.{◌<◌}
-use mathlib.Core.Path.{refl, ap}
-use mathlib.Core.List.{[]}
-use mathlib.Core.Bool.{not}
-use native.Mathlib.Omega.{arith}
+-- Each record that is tried is in range.
+use mathlib.Core.Path.{◌≡◌, ap, ◌∙◌}
+use mathlib.Core.Bool.{true}
 use lib.ListN.{length}
+use native.Mathlib.Omega.{arith}
+use Rattle.std.proofs.Common.{rules, tests}
+use Rattle.std.proofs.lemmas.Iterator.{YieldsList-from_slice}
+use Rattle.std.proofs.lemmas.Iterator.Search.{all_from_yields_List}
+use Rattle.std.proofs.lemmas.Iterator.Adapters.{serves_from_places}
+use Rattle.model.specs.Words.{all}
 use Rattle.model.specs.Site.{records}
 use Rattle.model.specs.Accept.{in_range, names_exist}
-use Rattle.site.proofs.Records.{all_at}
-use Rattle.site.proofs.Searches.{searched_hit, searched_pass, searched_end, all_search}
+use Rattle.site.proofs.Records.{all_at, all_is}
 use Rattle.site.proofs.names.all_names_exist.Goals as goal
 
-pub loop-i-init : goal.loop-i-init
-loop-i-init c = record { count = c.record_count-n.ensures; left = refl }
-
-pub names_exist-requires : goal.names_exist-requires
-names_exist-requires c =
-    let ss = records c.args.site.now in
-    let h : c.loop-i.i < length ss = omega arith in
-    record { indexed = c.requires.indexed; part_len = (c.record_at.ensures.1, rw c.record_at.ensures.0 (all_at in_range ss c.requires.records_in_range c.loop-i.i h)) }
-
-pub returns-then-not-names_exist : goal.returns-then-not-names_exist
-returns-then-not-names_exist c =
-    searched_hit (all_search (names_exist (records c.args.site.now))) [] c.loop-i.invariant (omega arith) c.record_at.ensures.0 (ap not c.names_exist.ensures) (ap not c.if-not-names_exist.true)
-
-pub loop-i-preserved : goal.loop-i-preserved
-loop-i-preserved c =
-    searched_pass (all_search (names_exist (records c.args.site.now))) [] c.loop-i.invariant (omega arith) c.record_at.ensures.0 (ap not c.names_exist.ensures) (ap not c.if-not-names_exist.false)
+pub all-requires-clause-callable : goal.all-requires-clause-callable
+all-requires-clause-callable c =
+    serves_from_places (YieldsList-from_slice _ c.iter.ensures.rest) (λ x q k. search (rules, tests))
+    (λ x k l e.
+    let h : in_range x.now ≡ true = rw (e, c.records.ensures.value) (all_at in_range (records c.args.site.now) c.requires k x.now (omega (arith, ap length c.records.ensures.value))) in
+    search rules)
 
 pub returns : goal.returns
-returns c = searched_end (all_search (names_exist (records c.args.site.now))) [] c.loop-i.invariant (omega arith)
+returns c =
+    let q = names_exist (records c.args.site.now) in
+    let e = all_from_yields_List q _ _ c.all.result c.all.ensures.ran (YieldsList-from_slice _ c.iter.ensures.rest) (λ x b q k. search (rules, tests)) in
+    e ∙ all_is q c.records.result.now ∙ ap (all q) c.records.ensures.value

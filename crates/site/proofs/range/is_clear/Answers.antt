@@ -1,25 +1,20 @@
-use mathlib.Core.Path.{refl, sym, ◌∙◌}
+-- All bits of the bytes are taken together.
+use Prim.Native.Nat.{◌+◌, ◌-◌}
+use mathlib.Core.Path.{◌≡◌}
 use native.Mathlib.Omega.{arith}
-use borrow.Author.Tests.{eq-eqb, ne_eqb}
-use Rattle.site.proofs.Clear.{clear_cut, clear_field}
+use lib.Bits.{bit_or}
+use lib.ListN.{take, drop}
+use Rattle.std.specs.List.{fold}
+use Rattle.std.proofs.Common.{rules, tests}
+use Rattle.std.proofs.lemmas.Iterator.{YieldsList-from_slice}
+use Rattle.std.proofs.lemmas.Iterator.Consumers.{fold_from_yields_List}
+use Rattle.site.proofs.Clear.{clear_all}
 use Rattle.site.proofs.range.is_clear.Goals as goal
 
-pub loop-left-init : goal.loop-left-init
-loop-left-init c = (refl, refl)
-
-pub returns-then-get_u64-ne0 : goal.returns-then-get_u64-ne0
-returns-then-get_u64-ne0 c =
-    let a = c.args in
-    let t = clear_cut 8 c.loop-left.left c.loop-left.i a.part.now (omega arith) (omega arith) in
-    let w = clear_field 8 c.loop-left.i a.part.now (omega arith) in
-    rw (← c.loop-left.invariant.1, t, w, ← c.get_u64.ensures, ne_eqb _ _ c.if-get_u64-ne0.true)
-
-pub loop-left-preserved : goal.loop-left-preserved
-loop-left-preserved c =
-    let a = c.args in
-    let t = clear_cut 8 c.loop-left.left c.loop-left.i a.part.now (omega arith) (omega arith) in
-    let w = clear_field 8 c.loop-left.i a.part.now (omega arith) in
-    (omega arith, sym (rw (w, ← c.get_u64.ensures, eq-eqb _ _ c.if-get_u64-ne0.false) at t) ∙ c.loop-left.invariant.1)
-
 pub returns : goal.returns
-returns c = c.is_rest_clear.ensures ∙ c.loop-left.invariant.1
+returns c =
+    let a = c.args in
+    let z : a.at + a.n - a.at ≡ a.n = omega arith in
+    let e : c.fold.result ≡ fold bit_or 0 (take (a.at + a.n - a.at) (drop a.at a.part.now)) =
+    fold_from_yields_List _ bit_or 0 c.fold.result c.fold.ensures.ran (YieldsList-from_slice _ c.iter.ensures.rest) (λ a x b q k. search (rules, tests)) in
+    rw (e, z) (clear_all a.at a.n a.part.now c.requires)
