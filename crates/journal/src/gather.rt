@@ -1,6 +1,5 @@
 // The records that a factor read looks at: each is looked up once, and its place kept for what is written.
-ghost use Rattle.std.specs.Prelude.{◌≡◌, []};
-ghost use Rattle.std.specs.Option.{unwrap_or, option_copied};
+ghost use Rattle.std.specs.Prelude.{◌≡◌, [], MatchOption};
 ghost use Rattle.model.specs.Site.{records};
 ghost use Rattle.model.specs.State.{count};
 ghost use Rattle.model.specs.Checks.{factor_for, credential_read};
@@ -17,6 +16,7 @@ use site::object::{Object, Placed};
 use site::{Presented, indexed};
 
 // The place of what a reference names: NONE names nothing.
+#[tactic(auto, unfolding(crate::specs::Places::seek_place))]
 fn seek<O: Placed>(site: &IndexedSite, object: O) -> Option<usize>
     ensures { result ≡ seek_place O.KIND (O.instance object) site.now }
 {
@@ -27,6 +27,7 @@ fn seek<O: Placed>(site: &IndexedSite, object: O) -> Option<usize>
 }
 
 // A zone's count, or 0 where there is no zone.
+#[tactic(auto, unfolding(model::specs::State::count, octets::specs::Octets::field))]
 pub fn count_at(state: &[u8], place: Option<usize>) -> u32
     ensures { result ≡ count (part_at place state.now) }
 {
@@ -34,6 +35,7 @@ pub fn count_at(state: &[u8], place: Option<usize>) -> u32
 }
 
 // The count of the Zone_To of the point that stands at a place.
+#[tactic(auto, unfolding(crate::specs::Gather::count_to, crate::specs::Gather::to_at))]
 pub fn count_to_at(site: &IndexedSite, state: &[u8], place: Option<usize>) -> u32
     ensures { result ≡ count_to place site.now state.now }
 {
@@ -43,19 +45,21 @@ pub fn count_to_at(site: &IndexedSite, state: &[u8], place: Option<usize>) -> u3
 
 // The factor that was read, at a point that waits for a credential or for nobody.
 fn factor_for<'a>(site: &IndexedSite<'a>, waiting: CredentialId, e: Entry) -> Option<&'a Record>
-    ensures { unwrap_or (option_copied result) [] ≡ factor_for waiting e (records site.now) }
+    ensures { MatchOption result (factor_for waiting e (records site.now) ≡ []) (λ part. part.now ≡ factor_for waiting e (records site.now)) }
 {
+    let value = e.value;
     let presented = Presented {
         confirms: (waiting != CredentialId::NONE).then_some(waiting),
         format: e.argument,
-        value: e.value,
+        value,
     };
     indexed::find_factor(site, presented)
 }
 
 // The credential waited for, else that of the factor, else NONE.
+#[tactic(auto, unfolding(model::specs::Checks::credential_read))]
 fn credential_read(waiting: CredentialId, factor: Option<&Record>) -> CredentialId
-    ensures { result ≡ credential_read waiting (unwrap_or (option_copied factor) []) }
+    ensures { MatchOption factor.entry (result ≡ credential_read waiting []) (λ part. result ≡ credential_read waiting part.now) }
 {
     if waiting != CredentialId::NONE {
         return waiting;

@@ -32,6 +32,7 @@ fn at_object(outcome: Outcome, place: Option<usize>) -> Decided
 }
 
 // A factor read at the point that stands at a place, in service.
+#[tactic(auto, unfolding(crate::specs::Decide::served_at))]
 fn served_at(site: &IndexedSite, state: &[u8], e: Entry, place: Option<usize>) -> Decided
     ensures { result ≡ served_at place e site.now state.now }
 {
@@ -43,6 +44,7 @@ fn served_at(site: &IndexedSite, state: &[u8], e: Entry, place: Option<usize>) -
 }
 
 // A factor read at the point that stands at a place. Out of service, nothing else is looked up or read.
+#[tactic(auto, unfolding(crate::specs::Decide::read_at))]
 fn factor_read_at(site: &IndexedSite, state: &[u8], e: Entry, place: Option<usize>) -> Decided
     ensures { result ≡ read_at place e site.now state.now }
 {
@@ -90,6 +92,7 @@ fn worked(
 }
 
 // The outcome of an entry, and where its records stand: refusals 7 and 8, then the operation.
+#[tactic(auto, unfolding(crate::specs::Decide::decided_as, crate::specs::Decide::decided_on))]
 fn decided(site: &IndexedSite, state: &[u8], e: Entry) -> Decided
     ensures { result ≡ decided_on site.now state.now e }
 {
