@@ -1,18 +1,19 @@
 // The records that a factor read looks at: each is looked up once, and its place kept for what is written.
-ghost use Rattle.std.specs.Prelude.{◌≡◌, [], MatchOption};
-ghost use Rattle.model.specs.Site.{records};
+ghost use Rattle.std.specs.Prelude.{◌≡◌, ℕ, List};
+ghost use Rattle.model.specs.Site.{records, find_in};
 ghost use Rattle.model.specs.State.{count};
 ghost use Rattle.model.specs.Checks.{factor_for, credential_read};
 ghost use Rattle.journal.specs.Places.{part_at, seek_place};
-ghost use Rattle.journal.specs.Gather.{gathered, to_at, count_to};
+ghost use Rattle.site.specs.Factor.{fits};
+ghost use Rattle.journal.specs.Gather.{factor_of, gathered, count_to};
 
 use super::object::{part_at, read_at};
 use super::{Gathered, Places};
 use index::IndexedSite;
 use model::numbers::NONE;
 use model::{CredentialId, Entry, Point, PointState, Situation};
-use records::Record;
-use site::object::{Object, Placed};
+use records::{FromRecord, Record};
+use site::object::Placed;
 use site::{Presented, indexed};
 
 // The place of what a reference names: NONE names nothing.
@@ -43,34 +44,69 @@ pub fn count_to_at(site: &IndexedSite, state: &[u8], place: Option<usize>) -> u3
     count_at(state, seek(site, point.zone_to))
 }
 
-// The factor that was read, at a point that waits for a credential or for nobody.
-fn factor_for<'a>(site: &IndexedSite<'a>, waiting: CredentialId, e: Entry) -> Option<&'a Record>
-    ensures { MatchOption result (factor_for waiting e (records site.now) ≡ []) (λ part. part.now ≡ factor_for waiting e (records site.now)) }
+// What is read of a factor: its credential and its disable.
+#[derive(Clone, Copy)]
+pub struct Factor {
+    pub credential: CredentialId,
+    pub disable: Option<u8>,
+}
+
+impl FromRecord for Factor {
+    ghost of_record = { factor_of };
+
+    #[tactic(auto, unfolding(crate::specs::Gather::factor_of))]
+    fn from_record(part: &Record) -> Factor {
+        Factor {
+            credential: CredentialId(records::site::instance_of(part)),
+            disable: Some(records::site::factor_disable_of(part)),
+        }
+    }
+
+    #[tactic(auto, unfolding(crate::specs::Gather::factor_of))]
+    fn missing() -> Factor {
+        Factor {
+            credential: CredentialId::NONE,
+            disable: None,
+        }
+    }
+}
+
+// What is presented at a point that waits for a credential or for nobody.
+#[tactic(auto, using(crate::proofs::Factors::presented_for))]
+fn presented(waiting: CredentialId, e: Entry) -> Presented
+    ensures { (ss : List (List ℕ)) → find_in (fits result) ss ≡ factor_for waiting e ss }
 {
     let value = e.value;
-    let presented = Presented {
+    Presented {
         confirms: (waiting != CredentialId::NONE).then_some(waiting),
         format: e.argument,
         value,
-    };
-    indexed::find_factor(site, presented)
+    }
+}
+
+// The factor that was read there.
+fn factor_for(site: &IndexedSite, waiting: CredentialId, e: Entry) -> Factor
+    ensures { result ≡ factor_of (factor_for waiting e (records site.now)) }
+{
+    match indexed::find_factor(site, presented(waiting, e)) {
+        Some(part) => Factor::from_record(part),
+        None => Factor::missing(),
+    }
 }
 
 // The credential waited for, else that of the factor, else NONE.
-#[tactic(auto, unfolding(model::specs::Checks::credential_read))]
-fn credential_read(waiting: CredentialId, factor: Option<&Record>) -> CredentialId
-    ensures { MatchOption factor.entry (result ≡ credential_read waiting []) (λ part. result ≡ credential_read waiting part.now) }
+#[tactic(auto, unfolding(model::specs::Checks::credential_read, crate::specs::Gather::factor_of))]
+fn credential_read(waiting: CredentialId, factor: Factor) -> CredentialId
+    ensures { (s : List ℕ) → factor ≡ factor_of s → result ≡ credential_read waiting s }
 {
     if waiting != CredentialId::NONE {
         return waiting;
     }
-    match factor {
-        Some(part) => CredentialId(records::site::instance_of(part)),
-        None => CredentialId::NONE,
-    }
+    factor.credential
 }
 
 // The situation of a factor read at the point that stands at a place.
+#[tactic(auto, unfolding(crate::specs::Gather::gathered, crate::specs::Gather::waiting_at, crate::specs::Gather::factor_at, crate::specs::Gather::number_at, crate::specs::Gather::to_at, crate::specs::Gather::from_at, crate::specs::Gather::held_at, crate::specs::Gather::factor_of))]
 pub fn gather(site: &IndexedSite, state: &[u8], e: Entry, place: Option<usize>) -> Gathered
     ensures { result ≡ gathered place e site.now state.now }
 {
@@ -89,7 +125,7 @@ pub fn gather(site: &IndexedSite, state: &[u8], e: Entry, place: Option<usize>) 
         count_to: count_at(state, zone_to),
         zone_from: read_at(site.bytes(), zone_from),
         count_from: count_at(state, zone_from),
-        factor_disable: factor.map(|part| records::site::factor_disable_of(part)),
+        factor_disable: factor.disable,
         number,
         credential: read_at(site.bytes(), credential),
         credential_state: read_at(state, credential),
