@@ -1,4 +1,5 @@
 pub mod At
+pub mod Factors
 pub mod Situations
 pub mod Decisions
 pub mod Loop

@@ -66,7 +66,7 @@ some_same : {A : Type 0} {x y : A} → Some x ≡ Some y → x ≡ y
 some_same h = cc
 
 module _ {I S : Type 0} (k : ℕ) (i : I → ℕ) (site : List ℕ) where
-  pub placed_none : (p : Option ℕ) → PlacedAt {I} {S} k i site None p
+  pub placed_none : (p : Option ℕ) → PlacedAt {I = I} {S = S} k i site None p
   placed_none p v q h = cc
 
   pub placed_some : (w : Write I S) (p : Option ℕ) → (eqb (i w.instance) NONE ≡ false → p ≡ place_of k (i w.instance) site) →

@@ -9,6 +9,7 @@ use records::ToRecord;
 use site::object::Object;
 
 // Where a write is made: at its place, if there is one among the n records of the state.
+#[tactic(auto, unfolding(crate::specs::Places::write_place))]
 fn write_place(instance: u32, place: Option<usize>, n: usize) -> Option<usize>
     ensures { result ≡ write_place instance place n }
 {
@@ -18,6 +19,7 @@ fn write_place(instance: u32, place: Option<usize>, n: usize) -> Option<usize>
     place.filter(|i| *i < n)
 }
 
+#[tactic(auto, using(crate::proofs::At::place_below_law))]
 fn write<I: Object, S: ToRecord>(state: &mut [u8], made: Option<Write<I, S>>, place: Option<usize>)
     ensures { state.new ≡ written I.instance S.record_of made place state.old }
 {
@@ -28,9 +30,10 @@ fn write<I: Object, S: ToRecord>(state: &mut [u8], made: Option<Write<I, S>>, pl
     let Some(i) = write_place(w.instance.instance(), place, n) else {
         return;
     };
-    octets::put_group(state, i, &w.state.to_record());
+    octets::put_group::<RECORD_SIZE>(state, i, &w.state.to_record());
 }
 
+#[tactic(auto, unfolding(crate::specs::Places::applied))]
 pub fn apply_outcome(state: &mut [u8], o: Outcome, at: Places)
     ensures { state.new ≡ applied o at state.old }
 {

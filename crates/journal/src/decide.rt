@@ -12,6 +12,7 @@ use model::{Entry, Outcome, PointId, Situation, Verdict};
 use rules::Asked;
 
 // What the rules say, where step 9 asks them; else nothing, which changes no event.
+#[tactic(auto, using(checks::proofs::Moves::rules_unasked))]
 fn rules_for(site: &IndexedSite, v: Situation, e: Entry, before: Option<u16>) -> Verdict
     requires { before ≡ before_permission v e }
     ensures { event_of v result e ≡ event_of v (rules_of v e (records site.now)) e }
@@ -29,6 +30,7 @@ fn rules_for(site: &IndexedSite, v: Situation, e: Entry, before: Option<u16>) ->
     rules::verdict_of(site, asked)
 }
 
+#[tactic(auto, using(checks::proofs::Moves::event_moves, checks::proofs::Room::event_room), unfolding(crate::specs::Decide::read_outcome))]
 pub fn decide(site: &IndexedSite, v: Situation, e: Entry) -> Outcome
     ensures { result ≡ read_outcome v (rules_of v e (records site.now)) e }
 {

@@ -1,22 +1,23 @@
 // The records that a factor read looks at: each is looked up once, and its place kept for what is written.
-ghost use Rattle.std.specs.Prelude.{◌≡◌, []};
-ghost use Rattle.std.specs.Option.{unwrap_or, option_copied};
-ghost use Rattle.model.specs.Site.{records};
-ghost use Rattle.model.specs.State.{count};
+ghost use Rattle.std.specs.Prelude.{◌≡◌, ℕ, List};
+ghost use Rattle.model.specs.Site.{records, find_in, point_of};
+ghost use Rattle.model.specs.State.{count, point_state_of};
 ghost use Rattle.model.specs.Checks.{factor_for, credential_read};
 ghost use Rattle.journal.specs.Places.{part_at, seek_place};
-ghost use Rattle.journal.specs.Gather.{gathered, to_at, count_to};
+ghost use Rattle.site.specs.Factor.{fits};
+ghost use Rattle.journal.specs.Gather.{factor_of, gathered, count_to};
 
 use super::object::{part_at, read_at};
 use super::{Gathered, Places};
 use index::IndexedSite;
 use model::numbers::NONE;
 use model::{CredentialId, Entry, Point, PointState, Situation};
-use records::Record;
-use site::object::{Object, Placed};
+use records::{FromRecord, Record};
+use site::object::Placed;
 use site::{Presented, indexed};
 
 // The place of what a reference names: NONE names nothing.
+#[tactic(auto, unfolding(crate::specs::Places::seek_place))]
 fn seek<O: Placed>(site: &IndexedSite, object: O) -> Option<usize>
     ensures { result ≡ seek_place O.KIND (O.instance object) site.now }
 {
@@ -27,13 +28,30 @@ fn seek<O: Placed>(site: &IndexedSite, object: O) -> Option<usize>
 }
 
 // A zone's count, or 0 where there is no zone.
+#[tactic(auto, unfolding(model::specs::State::count, octets::specs::Octets::field))]
 pub fn count_at(state: &[u8], place: Option<usize>) -> u32
     ensures { result ≡ count (part_at place state.now) }
 {
     part_at(state, place).map_or(0, |part| records::state::count_of(part))
 }
 
+// Whether the point at a place is out of service, and the tag that it holds.
+#[tactic(auto, unfolding(model::specs::Site::point_of, model::specs::Site::flag, octets::specs::Octets::field))]
+pub fn is_out_of_service_at(site: &IndexedSite, place: Option<usize>) -> bool
+    ensures { result ≡ (point_of (part_at place site.now)).out_of_service }
+{
+    part_at(site.bytes(), place).is_some_and(|part| records::site::is_out_of_service(part))
+}
+
+#[tactic(auto, unfolding(model::specs::State::point_state_of, octets::specs::Octets::field))]
+pub fn tag_at(state: &[u8], place: Option<usize>) -> u32
+    ensures { result ≡ (point_state_of (part_at place state.now)).tag }
+{
+    part_at(state, place).map_or(0, |part| records::state::tag_of(part))
+}
+
 // The count of the Zone_To of the point that stands at a place.
+#[tactic(auto, unfolding(crate::specs::Gather::count_to, crate::specs::Gather::to_at))]
 pub fn count_to_at(site: &IndexedSite, state: &[u8], place: Option<usize>) -> u32
     ensures { result ≡ count_to place site.now state.now }
 {
@@ -41,32 +59,69 @@ pub fn count_to_at(site: &IndexedSite, state: &[u8], place: Option<usize>) -> u3
     count_at(state, seek(site, point.zone_to))
 }
 
-// The factor that was read, at a point that waits for a credential or for nobody.
-fn factor_for<'a>(site: &IndexedSite<'a>, waiting: CredentialId, e: Entry) -> Option<&'a Record>
-    ensures { unwrap_or (option_copied result) [] ≡ factor_for waiting e (records site.now) }
+// What is read of a factor: its credential and its disable.
+#[derive(Clone, Copy)]
+pub struct Factor {
+    pub credential: CredentialId,
+    pub disable: Option<u8>,
+}
+
+impl FromRecord for Factor {
+    ghost of_record = { factor_of };
+
+    #[tactic(auto, unfolding(crate::specs::Gather::factor_of))]
+    fn from_record(part: &Record) -> Factor {
+        Factor {
+            credential: CredentialId(records::site::instance_of(part)),
+            disable: Some(records::site::factor_disable_of(part)),
+        }
+    }
+
+    #[tactic(auto, unfolding(crate::specs::Gather::factor_of))]
+    fn missing() -> Factor {
+        Factor {
+            credential: CredentialId::NONE,
+            disable: None,
+        }
+    }
+}
+
+// What is presented at a point that waits for a credential or for nobody.
+#[tactic(auto, using(crate::proofs::Factors::presented_for))]
+fn presented(waiting: CredentialId, e: Entry) -> Presented
+    ensures { (ss : List (List ℕ)) → find_in (fits result) ss ≡ factor_for waiting e ss }
 {
-    let presented = Presented {
+    let value = e.value;
+    Presented {
         confirms: (waiting != CredentialId::NONE).then_some(waiting),
         format: e.argument,
-        value: e.value,
-    };
-    indexed::find_factor(site, presented)
+        value,
+    }
+}
+
+// The factor that was read there.
+fn factor_for(site: &IndexedSite, waiting: CredentialId, e: Entry) -> Factor
+    ensures { result ≡ factor_of (factor_for waiting e (records site.now)) }
+{
+    match indexed::find_factor(site, presented(waiting, e)) {
+        Some(part) => Factor::from_record(part),
+        None => Factor::missing(),
+    }
 }
 
 // The credential waited for, else that of the factor, else NONE.
-fn credential_read(waiting: CredentialId, factor: Option<&Record>) -> CredentialId
-    ensures { result ≡ credential_read waiting (unwrap_or (option_copied factor) []) }
+#[tactic(auto, unfolding(model::specs::Checks::credential_read, crate::specs::Gather::factor_of))]
+fn credential_read(waiting: CredentialId, factor: Factor) -> CredentialId
+    ensures { (s : List ℕ) → factor ≡ factor_of s → result ≡ credential_read waiting s }
 {
     if waiting != CredentialId::NONE {
         return waiting;
     }
-    match factor {
-        Some(part) => CredentialId(records::site::instance_of(part)),
-        None => CredentialId::NONE,
-    }
+    factor.credential
 }
 
 // The situation of a factor read at the point that stands at a place.
+#[tactic(auto, unfolding(crate::specs::Gather::gathered, crate::specs::Gather::waiting_at, crate::specs::Gather::factor_at, crate::specs::Gather::number_at, crate::specs::Gather::to_at, crate::specs::Gather::from_at, crate::specs::Gather::held_at, crate::specs::Gather::factor_of))]
 pub fn gather(site: &IndexedSite, state: &[u8], e: Entry, place: Option<usize>) -> Gathered
     ensures { result ≡ gathered place e site.now state.now }
 {
@@ -85,7 +140,7 @@ pub fn gather(site: &IndexedSite, state: &[u8], e: Entry, place: Option<usize>) 
         count_to: count_at(state, zone_to),
         zone_from: read_at(site.bytes(), zone_from),
         count_from: count_at(state, zone_from),
-        factor_disable: factor.map(|part| records::site::factor_disable_of(part)),
+        factor_disable: factor.disable,
         number,
         credential: read_at(site.bytes(), credential),
         credential_state: read_at(state, credential),

@@ -1,6 +1,5 @@
 // Where the object of an entry stands, and the records there.
-ghost use Rattle.std.specs.Prelude.{◌≡◌, ◌/◌, [], length};
-ghost use Rattle.std.specs.Option.{unwrap_or, option_copied};
+ghost use Rattle.std.specs.Prelude.{◌≡◌, [], MatchOption};
 ghost use Rattle.journal.specs.Places.{part_at, object_place};
 
 use index::IndexedSite;
@@ -10,7 +9,7 @@ use site::indexed;
 
 // The record at a place, where there is one.
 pub fn part_at(bytes: &[u8], place: Option<usize>) -> Option<&Record>
-    ensures { unwrap_or (option_copied result) [] ≡ part_at place bytes.now }
+    ensures { MatchOption result (part_at place bytes.now ≡ []) (λ part. part.now ≡ part_at place bytes.now) }
 {
     octets::groups(bytes).get(place?)
 }

@@ -8,8 +8,8 @@ ghost use Rattle.journal.specs.Decide.{at_object, served_at, read_at, worked_at,
 
 use super::apply::apply_outcome;
 use super::decide::decide;
-use super::gather::{count_at, count_to_at, gather};
-use super::object::{object_place, part_at, read_at};
+use super::gather::{count_at, count_to_at, gather, is_out_of_service_at, tag_at};
+use super::object::{object_place, read_at};
 use super::{Decided, Places};
 use effects::operations;
 use entries::form;
@@ -32,6 +32,7 @@ fn at_object(outcome: Outcome, place: Option<usize>) -> Decided
 }
 
 // A factor read at the point that stands at a place, in service.
+#[tactic(auto, unfolding(crate::specs::Decide::served_at))]
 fn served_at(site: &IndexedSite, state: &[u8], e: Entry, place: Option<usize>) -> Decided
     ensures { result ≡ served_at place e site.now state.now }
 {
@@ -43,15 +44,14 @@ fn served_at(site: &IndexedSite, state: &[u8], e: Entry, place: Option<usize>) -
 }
 
 // A factor read at the point that stands at a place. Out of service, nothing else is looked up or read.
+#[tactic(auto, unfolding(crate::specs::Decide::read_at))]
 fn factor_read_at(site: &IndexedSite, state: &[u8], e: Entry, place: Option<usize>) -> Decided
     ensures { result ≡ read_at place e site.now state.now }
 {
-    let is_out_of_service = part_at(site.bytes(), place)
-        .is_some_and(|part| records::site::is_out_of_service(part));
-    if is_out_of_service {
-        let tag = part_at(state, place).map_or(0, |part| records::state::tag_of(part));
+    if is_out_of_service_at(site, place) {
         let count = count_to_at(site, state, place);
-        return at_object(operations::out_of_service_outcome(tag, count), None);
+        let outcome = operations::out_of_service_outcome(tag_at(state, place), count);
+        return at_object(outcome, None);
     }
     served_at(site, state, e, place)
 }
@@ -90,6 +90,7 @@ fn worked(
 }
 
 // The outcome of an entry, and where its records stand: refusals 7 and 8, then the operation.
+#[tactic(auto, unfolding(crate::specs::Decide::decided_as, crate::specs::Decide::decided_on, model::specs::Entry::in_form))]
 fn decided(site: &IndexedSite, state: &[u8], e: Entry) -> Decided
     ensures { result ≡ decided_on site.now state.now e }
 {
@@ -104,11 +105,13 @@ fn decided(site: &IndexedSite, state: &[u8], e: Entry) -> Decided
     worked(site, state, operation, e, place)
 }
 
+#[tactic(auto, using(crate::proofs::Decisions::decided_outcome, crate::proofs::Decisions::stepped))]
 pub fn step(site: &IndexedSite, state: &mut [u8], e: Entry) -> Answer
     requires { length state.old ≡ length site.now }
     ensures state_after { state.new ≡ state_of (apply (entry_outcome (panel site.now state.old) e) (panel site.now state.old)) }
     ensures answer { result ≡ (entry_outcome (panel site.now state.old) e).answer }
 {
+    let _ = site.bytes();
     let d = decided(site, state, e);
     apply_outcome(state, d.outcome, d.places);
     d.outcome.answer
