@@ -1,7 +1,7 @@
 // The characters of the text: answers in hexadecimal digits, numbers in decimal, each line with its line feed.
 ghost use Rattle.std.specs.Prelude.{◌≡◌, ◌++◌, ◌+◌, ◌*◌, ◌/◌, ◌≤◌, ◌<◌, length, drop};
 ghost use Rattle.model.specs.Numbers.{answer_size};
-ghost use Rattle.model.specs.Print.{digit_zero, hex_digit, hex_byte, hex_line, answers_text, decimal_line};
+ghost use Rattle.model.specs.Print.{digit_zero, hex_digit, hex_line, answers_text, decimal_line};
 ghost use Rattle.octets.specs.Octets.{with_part};
 ghost use Rattle.print.specs.Print.{line_size, number_size};
 
@@ -20,21 +20,15 @@ fn hex_digit(n: u8) -> u8
     }
 }
 
-// A byte as two digits, the high one first.
-#[tactic(auto, unfolding(model::specs::Print::hex_byte))]
-fn hex_byte(byte: u8) -> [u8; 2]
-    ensures { result ≡ hex_byte byte }
-{
-    [hex_digit(byte / 16), hex_digit(byte % 16)]
-}
-
-// An answer as 32 digits and a line feed.
+// An answer as 32 digits, the high one of each byte first, and a line feed.
 fn hex_line(answer: &[u8; ANSWER_SIZE]) -> [u8; LINE_SIZE]
     ensures { result ≡ hex_line answer.now }
 {
-    let digits = answer.map(hex_byte);
     let mut line = [LINE_FEED; LINE_SIZE];
-    line[..LINE_DIGITS].copy_from_slice(digits.as_flattened());
+    for (i, byte) in answer.iter().enumerate() {
+        line[i * 2] = hex_digit(byte / 16);
+        line[i * 2 + 1] = hex_digit(byte % 16);
+    }
     line
 }
 
