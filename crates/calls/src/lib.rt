@@ -1,7 +1,7 @@
 // The calls, on slices. Every call checks the site anew, and nothing is written before all checks have passed.
-#![tactic(auto)]
+#![tactic(auto, unfolding(model::specs::Calls::is_worked, model::specs::Calls::fresh_returned, model::specs::Calls::fresh_state, model::specs::Calls::check_state, model::specs::Calls::run_returned, model::specs::Calls::run_journal))]
 
-ghost use Rattle.std.specs.Prelude.{◌≡◌, IfOk};
+ghost use Rattle.std.specs.Prelude.{◌≡◌, ◌*◌, ◌/◌, length, IfOk};
 ghost use Rattle.model.specs.Calls.{number, check_site, fresh_returned, fresh_result, fresh_state, check_state, run_returned, run_result, run_journal};
 ghost use Rattle.site.specs.Parts.{outcome};
 
@@ -36,6 +36,7 @@ fn fresh_checked<'a>(
 ) -> Result<IndexedSite<'a>, Refusal>
     ensures value { outcome result ≡ fresh_returned site.now state.now }
     ensures site { IfOk result (λ s. s ≡ site.now) }
+    ensures state_len { IfOk result (λ s. length state.now ≡ length site.now) }
 {
     let indexed = site::check::check_site(site, words)?;
     if state.len() != site.len() {
@@ -62,6 +63,7 @@ fn state_checked<'a>(
 ) -> Result<IndexedSite<'a>, Refusal>
     ensures value { outcome result ≡ check_state site.now state.now }
     ensures site { IfOk result (λ s. s ≡ site.now) }
+    ensures state_len { IfOk result (λ s. length state.now ≡ length site.now) }
 {
     let indexed = fresh_checked(site, words, state)?;
     if !state::well::is_well_formed(&indexed, state) {
@@ -89,6 +91,8 @@ fn run_checked<'a>(
 ) -> Result<IndexedSite<'a>, Refusal>
     ensures value { outcome result ≡ run_returned site.now state.now journal.now answers.now }
     ensures site { IfOk result (λ s. s ≡ site.now) }
+    ensures state_len { IfOk result (λ s. length state.now ≡ length site.now) }
+    ensures answers_len { IfOk result (λ s. length answers.now ≡ length journal.now / 24 * 16) }
 {
     let indexed = state_checked(site, words, state)?;
     if (journal.len() % ENTRY_SIZE != 0) | (LARGEST_JOURNAL < journal.len()) {

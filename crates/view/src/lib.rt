@@ -34,6 +34,7 @@ pub fn find_object(site: &[u8], object: Object) -> &[u8]
 }
 
 // A site's bytes, and how many records they hold; seen as the bytes.
+#[derive(Drop)]
 pub struct SiteView<'a> {
     bytes: &'a [u8],
     records: usize,
