@@ -1,9 +1,9 @@
 -- By induction on the entries: each turn works the next one.
-use Rattle.std.proofs.Common.{◌≡◌, ◌*◌, ◌/◌, length, map, refl, ◌∙◌, ap, ap₂, arith}
+use Rattle.std.proofs.Common.{length, map, refl, ◌∙◌, ap₂, arith}
 use Rattle.std.proofs.lemmas.List.{length_push}
 use Rattle.octets.specs.Octets.{with_part}
 use Rattle.model.specs.State.{panel}
-use Rattle.model.specs.Entry.{entry_of, entries, answer_bytes}
+use Rattle.model.specs.Entry.{entry_of, entries}
 use Rattle.entries.proofs.Turns.{turn, turns, length_entries}
 use Rattle.journal.proofs.Loop.{done_start, done_step, done_end}
 use Rattle.journal.proofs.run.run.Goals as goal
