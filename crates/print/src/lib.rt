@@ -22,7 +22,12 @@ fn has_room(journal: &[u8], text: &[u8]) -> bool
 
 // Runs a journal from fresh, in the lent state and answers.
 #[tactic(auto, unfolding(crate::specs::Print::run_into))]
-fn run_into(site: &[u8], journal: &[u8], state: &mut [u8], answers: &mut [u8]) -> Result<(), Refusal>
+fn run_into(
+    site: &[u8],
+    journal: &[u8],
+    state: &mut [u8],
+    answers: &mut [u8],
+) -> Result<(), Refusal>
     ensures { run_result result state.new answers.new ≡ run_into site.now journal.now state.old answers.old }
 {
     let _ = view::fresh_state(site, state);

@@ -22,6 +22,7 @@ pub enum Object {
 }
 
 // The first record that an object names, else the empty part.
+#[tactic(auto, unfolding(crate::specs::Object::kind_of, crate::specs::Object::instance_of))]
 pub fn find_object(site: &[u8], object: Object) -> &[u8]
     ensures { result.now ≡ lookup (kind_of object) (instance_of object) site.now }
 {
@@ -42,13 +43,13 @@ pub struct SiteView<'a> {
 
 impl<'a> Model for SiteView<'a> {
     ghost use Rattle.std.specs.Prelude.{◌≡◌, ℕ, List, length};
-    ghost use Rattle.model.specs.Site.{records};
+    ghost use Rattle.model.specs.Site as Site;
 
     ghost Value = { List ℕ };
 
     ghost view = { λ a. a.bytes.now };
 
-    ghost invariant = { λ a. a.records ≡ length (records a.bytes.now) };
+    ghost invariant = { λ a. a.records ≡ length (Site.records a.bytes.now) };
 }
 
 impl<'a> SiteView<'a> {
