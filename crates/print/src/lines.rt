@@ -5,7 +5,7 @@ ghost use Rattle.model.specs.Print.{digit_zero, hex_digit, hex_line, answers_tex
 ghost use Rattle.octets.specs.Octets.{with_part};
 ghost use Rattle.print.specs.Print.{line_size, number_size};
 
-use super::numbers::{DIGIT_ZERO, LETTER_BASE, LINE_DIGITS, LINE_FEED, LINE_SIZE, NUMBER_SIZE};
+use super::numbers::{DIGIT_ZERO, LETTER_BASE, LINE_FEED, LINE_SIZE, NUMBER_SIZE};
 use model::numbers::ANSWER_SIZE;
 
 #[tactic(auto, unfolding(model::specs::Print::hex_digit))]
