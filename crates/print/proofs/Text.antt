@@ -4,7 +4,7 @@ use Prim.Native.Nat.{ℕ, ◌*◌, ◌/◌, ◌≤◌, ◌<◌}
 use native.Mathlib.Omega.{arith}
 use mathlib.Core.Path.{◌≡◌, refl, ap}
 use mathlib.Core.List.{List, ◌++◌}
-use Rattle.std.specs.Prelude.{Some, None, Ok, Err}
+use Rattle.std.specs.Prelude.{Some, None, Ok, Err, is_ok}
 use mathlib.Core.Bool.{Bool, true, false}
 use lib.Dec.{leb, lit<}
 use lib.ListN.{length, drop, length-append}
@@ -27,6 +27,18 @@ number_short (Err StateLength) = lit< tt
 number_short (Err StateForm) = lit< tt
 number_short (Err JournalLength) = lit< tt
 number_short (Err AnswersLength) = lit< tt
+
+pub worked_if_ok : (r : Returned) → is_worked r ≡ is_ok r
+unfolding is_worked
+worked_if_ok (Ok tt) = refl
+worked_if_ok (Err SiteLength) = refl
+worked_if_ok (Err SiteField) = refl
+worked_if_ok (Err SiteTwice) = refl
+worked_if_ok (Err SiteMissing) = refl
+worked_if_ok (Err StateLength) = refl
+worked_if_ok (Err StateForm) = refl
+worked_if_ok (Err JournalLength) = refl
+worked_if_ok (Err AnswersLength) = refl
 
 pub number_fits : (journal text : List ℕ) → has_room journal text ≡ true → 3 ≤ length text
 unfolding has_room

@@ -2,7 +2,6 @@
 ghost use Rattle.std.specs.Prelude.{◌≡◌, ◌++◌, ◌+◌, ◌*◌, ◌/◌, ◌≤◌, ◌<◌, length, drop};
 ghost use Rattle.model.specs.Numbers.{answer_size};
 ghost use Rattle.model.specs.Print.{digit_zero, hex_digit, hex_line, answers_text, decimal_line};
-ghost use Rattle.octets.specs.Octets.{with_part};
 ghost use Rattle.print.specs.Print.{line_size, number_size};
 
 use super::numbers::{DIGIT_ZERO, LETTER_BASE, LINE_FEED, LINE_SIZE, NUMBER_SIZE};
@@ -32,26 +31,15 @@ fn hex_line(answer: &[u8; ANSWER_SIZE]) -> [u8; LINE_SIZE]
     line
 }
 
-// Writes the k-th line of the text.
-#[tactic(auto, using(octets::proofs::Groups::part_back))]
-fn write_line_at(text: &mut [u8], k: usize, line: &[u8; LINE_SIZE])
-    requires { k < length text.old / line_size }
-    ensures { text.new ≡ with_part line_size k line.now text.old }
-{
-    let start = k * LINE_SIZE;
-    let end = start + LINE_SIZE;
-    text[start..end].copy_from_slice(line);
-}
-
 // A line for each whole answer, in turn, at the head of the text. Returns how long they are.
 pub(super) fn write_answers(answers: &[u8], text: &mut [u8]) -> usize
     requires { length answers.now / answer_size * line_size ≤ length text.old }
     ensures text_after { text.new ≡ answers_text answers.now ++ drop result text.old }
     ensures value { result ≡ length (answers_text answers.now) }
 {
-    let (whole, _) = answers.as_chunks::<ANSWER_SIZE>();
+    let whole = octets::groups::<ANSWER_SIZE>(answers);
     for (k, answer) in whole.iter().enumerate() {
-        write_line_at(text, k, &hex_line(answer));
+        octets::put_group(text, k, &hex_line(answer));
     }
     whole.len() * LINE_SIZE
 }
