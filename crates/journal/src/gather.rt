@@ -3,8 +3,8 @@ ghost use Rattle.std.specs.Prelude.{◌≡◌, ℕ, List};
 ghost use Rattle.model.specs.Site.{records, find_in};
 ghost use Rattle.model.specs.State.{count};
 ghost use Rattle.model.specs.Checks.{factor_for, credential_read};
-ghost use Rattle.journal.specs.Places.{part_at, seek_place};
 ghost use Rattle.site.specs.Factor.{fits};
+ghost use Rattle.journal.specs.Places.{part_at, seek_place};
 ghost use Rattle.journal.specs.Gather.{to_at, factor_of, gathered};
 
 use super::object::{part_at, read_at};
