@@ -32,12 +32,7 @@ module _ (site state : List ℕ) (whole_site : length site % 32 ≡ 0) (same_len
   pub situation_at : (place : Option ℕ) (e : Entry) → situation_of (panel site state) e (part_at place site, part_at place state) ≡ (gathered place e site state).situation
   unfolding situation_of factor_read number_read zone_to zone_from credential_at gathered waiting_at factor_at number_at to_at from_at held_at
   situation_at place e =
-      rw (
-        sites_panel site state,
-        seek_at site state whole_site same_length 1 _,
-        seek_at site state whole_site same_length 1 _,
-        seek_at site state whole_site same_length 4 _,
-      )
+      simp (sites_panel site state, seek_at site state whole_site same_length)
 
   -- The rules are asked of the site's records.
   pub rules_at_law : (place : Option ℕ) (e : Entry) →

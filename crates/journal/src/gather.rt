@@ -1,11 +1,11 @@
 // The records that a factor read looks at: each is looked up once, and its place kept for what is written.
 ghost use Rattle.std.specs.Prelude.{◌≡◌, ℕ, List};
-ghost use Rattle.model.specs.Site.{records, find_in, point_of};
-ghost use Rattle.model.specs.State.{count, point_state_of};
+ghost use Rattle.model.specs.Site.{records, find_in};
+ghost use Rattle.model.specs.State.{count};
 ghost use Rattle.model.specs.Checks.{factor_for, credential_read};
-ghost use Rattle.journal.specs.Places.{part_at, seek_place};
 ghost use Rattle.site.specs.Factor.{fits};
-ghost use Rattle.journal.specs.Gather.{factor_of, gathered, count_to};
+ghost use Rattle.journal.specs.Places.{part_at, seek_place};
+ghost use Rattle.journal.specs.Gather.{to_at, factor_of, gathered};
 
 use super::object::{part_at, read_at};
 use super::{Gathered, Places};
@@ -29,41 +29,26 @@ fn seek<O: Placed>(site: &IndexedSite, object: O) -> Option<usize>
 
 // A zone's count, or 0 where there is no zone.
 #[tactic(auto, unfolding(model::specs::State::count, octets::specs::Octets::field))]
-pub fn count_at(state: &[u8], place: Option<usize>) -> u32
+pub(crate) fn count_at(state: &[u8], place: Option<usize>) -> u32
     ensures { result ≡ count (part_at place state.now) }
 {
     part_at(state, place).map_or(0, |part| records::state::count_of(part))
 }
 
-// Whether the point at a place is out of service, and the tag that it holds.
-#[tactic(auto, unfolding(model::specs::Site::point_of, model::specs::Site::flag, octets::specs::Octets::field))]
-pub fn is_out_of_service_at(site: &IndexedSite, place: Option<usize>) -> bool
-    ensures { result ≡ (point_of (part_at place site.now)).out_of_service }
-{
-    part_at(site.bytes(), place).is_some_and(|part| records::site::is_out_of_service(part))
-}
-
-#[tactic(auto, unfolding(model::specs::State::point_state_of, octets::specs::Octets::field))]
-pub fn tag_at(state: &[u8], place: Option<usize>) -> u32
-    ensures { result ≡ (point_state_of (part_at place state.now)).tag }
-{
-    part_at(state, place).map_or(0, |part| records::state::tag_of(part))
-}
-
-// The count of the Zone_To of the point that stands at a place.
-#[tactic(auto, unfolding(crate::specs::Gather::count_to, crate::specs::Gather::to_at))]
-pub fn count_to_at(site: &IndexedSite, state: &[u8], place: Option<usize>) -> u32
-    ensures { result ≡ count_to place site.now state.now }
+// The place of the Zone_To of the point that stands at a place.
+#[tactic(auto, unfolding(crate::specs::Gather::to_at))]
+pub fn zone_to_at(site: &IndexedSite, place: Option<usize>) -> Option<usize>
+    ensures { result ≡ to_at place site.now }
 {
     let point: Point = read_at(site.bytes(), place);
-    count_at(state, seek(site, point.zone_to))
+    seek(site, point.zone_to)
 }
 
 // What is read of a factor: its credential and its disable.
 #[derive(Clone, Copy)]
-pub struct Factor {
-    pub credential: CredentialId,
-    pub disable: Option<u8>,
+struct Factor {
+    credential: CredentialId,
+    disable: Option<u8>,
 }
 
 impl FromRecord for Factor {

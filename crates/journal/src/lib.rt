@@ -1,5 +1,5 @@
 // A journal run over lent bytes. The way of an entry goes forward: its form and its object, the records that it looks at, gathered by value, its outcome,
-// and the records that it writes, each lent to its writer.
+// and the records that it writes.
 #![tactic(auto)]
 
 pub mod object; // object.rt: where the object of an entry stands

@@ -15,7 +15,7 @@ pub fn part_at(bytes: &[u8], place: Option<usize>) -> Option<&Record>
 }
 
 // What is read of the record at a place, or of none.
-pub fn read_at<R: FromRecord>(bytes: &[u8], place: Option<usize>) -> R
+pub(crate) fn read_at<R: FromRecord>(bytes: &[u8], place: Option<usize>) -> R
     ensures { result ≡ R.of_record (part_at place bytes.now) }
 {
     match part_at(bytes, place) {

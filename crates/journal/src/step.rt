@@ -1,5 +1,6 @@
 // One entry: its form, its object, what it looks at, its outcome; then its records are written.
 ghost use Rattle.std.specs.Prelude.{◌≡◌, Option, Some, length};
+ghost use Rattle.model.specs.Site.{point_of};
 ghost use Rattle.model.specs.State.{panel, state_of, point_state_of};
 ghost use Rattle.model.specs.Step.{service_outcome, entry_outcome, apply};
 ghost use Rattle.journal.specs.Places.{part_at};
@@ -8,8 +9,8 @@ ghost use Rattle.journal.specs.Decide.{at_object, served_at, read_at, worked_at,
 
 use super::apply::apply_outcome;
 use super::decide::decide;
-use super::gather::{count_at, count_to_at, gather, is_out_of_service_at, tag_at};
-use super::object::{object_place, read_at};
+use super::gather::{count_at, gather, zone_to_at};
+use super::object::{object_place, part_at, read_at};
 use super::{Decided, Places};
 use effects::operations;
 use entries::form;
@@ -29,6 +30,30 @@ fn at_object(outcome: Outcome, place: Option<usize>) -> Decided
             zone_from: None,
         },
     }
+}
+
+// Whether the point that stands at a place is out of service.
+#[tactic(auto, unfolding(model::specs::Site::point_of, model::specs::Site::flag, octets::specs::Octets::field))]
+fn is_out_of_service_at(site: &IndexedSite, place: Option<usize>) -> bool
+    ensures { result ≡ (point_of (part_at place site.now)).out_of_service }
+{
+    part_at(site.bytes(), place).is_some_and(|part| records::site::is_out_of_service(part))
+}
+
+// The tag that it holds.
+#[tactic(auto, unfolding(model::specs::State::point_state_of, octets::specs::Octets::field))]
+fn tag_at(state: &[u8], place: Option<usize>) -> u32
+    ensures { result ≡ (point_state_of (part_at place state.now)).tag }
+{
+    part_at(state, place).map_or(0, |part| records::state::tag_of(part))
+}
+
+// The count of its Zone_To.
+#[tactic(auto, unfolding(crate::specs::Gather::count_to))]
+fn count_to_at(site: &IndexedSite, state: &[u8], place: Option<usize>) -> u32
+    ensures { result ≡ count_to place site.now state.now }
+{
+    count_at(state, zone_to_at(site, place))
 }
 
 // A factor read at the point that stands at a place, in service.
@@ -111,6 +136,7 @@ pub fn step(site: &IndexedSite, state: &mut [u8], e: Entry) -> Answer
     ensures state_after { state.new ≡ state_of (apply (entry_outcome (panel site.now state.old) e) (panel site.now state.old)) }
     ensures answer { result ≡ (entry_outcome (panel site.now state.old) e).answer }
 {
+    // The site is of whole records, and so is then the state.
     let _ = site.bytes();
     let d = decided(site, state, e);
     apply_outcome(state, d.outcome, d.places);
