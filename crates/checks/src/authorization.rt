@@ -2,7 +2,7 @@
 ghost use Rattle.std.specs.Prelude.{◌≡◌};
 ghost use Rattle.model.specs.Checks.{at_lower_limit, at_upper_limit, authorization_of, authorization, passage, permission};
 
-use conditions::{is_into_zone, is_passback_violated};
+use conditions::{has_reached, is_into_zone, is_passback_violated};
 use model::{Authorization, Entry, Situation, Verdict, numbers};
 
 #[tactic(auto, unfolding(model::specs::Checks::at_lower_limit))]
@@ -24,7 +24,7 @@ pub fn is_at_upper_limit(v: Situation) -> bool
         & v.point.upper_enforced
         & v.zone_to.counting
         & (v.zone_to.upper_limit != 0)
-        & (v.zone_to.upper_limit <= v.count_to)
+        & has_reached(v.count_to, v.zone_to.upper_limit)
 }
 
 // What steps 7 to 10 find, with what the rules say.

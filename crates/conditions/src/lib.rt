@@ -1,7 +1,7 @@
 // What both the order of checks and the effects ask of a situation.
 #![tactic(auto)]
 
-ghost use Rattle.std.specs.Prelude.{◌≡◌};
+ghost use Rattle.std.specs.Prelude.{◌≡◌, leb};
 ghost use Rattle.model.specs.Checks as m;
 ghost use Rattle.model.specs.Checks.{relinquished, still_locked, waiting, into_zone, passback_violated};
 
@@ -13,6 +13,13 @@ pub fn elapsed(now: u32, since: u32) -> u32
     ensures { result ≡ m.elapsed now since }
 {
     now.saturating_sub(since)
+}
+
+// Whether a count has reached a limit: one more would pass it.
+pub fn has_reached(count: u32, limit: u32) -> bool
+    ensures { result ≡ leb limit count }
+{
+    limit <= count
 }
 
 // Step 1 unlocks the point: a set relinquish time has passed.
