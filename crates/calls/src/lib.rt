@@ -1,127 +1,116 @@
 // The calls, on slices. Every call checks the site anew, and nothing is written before all checks have passed.
 #![tactic(auto)]
 
-ghost use Rattle.std.specs.Prelude.{◌≡◌, length};
-ghost use Rattle.model.specs.Calls.{number, is_worked, check_site, fresh_returned, fresh_result, fresh_state, check_state, run_returned, run_result, run_journal};
-ghost use Rattle.index.specs.Index.{index_size};
-ghost use Rattle.calls.specs.Checked.{Checked};
+ghost use Rattle.std.specs.Prelude.{◌≡◌, IfOk};
+ghost use Rattle.model.specs.Calls.{number, check_site, fresh_returned, fresh_result, fresh_state, check_state, run_returned, run_result, run_journal};
+ghost use Rattle.site.specs.Parts.{outcome};
 
-use index::{INDEX_SIZE, UNBUILT};
-use model::Returned;
+use index::{INDEX_SIZE, IndexedSite, UNBUILT, Words};
+use model::Refusal;
 use model::numbers::{ANSWER_SIZE, ENTRY_SIZE, LARGEST_JOURNAL};
 
 // The number of an outcome in document 01, section "Turned back".
-pub fn number_of(r: Returned) -> u32
-    ensures { result ≡ number r }
+pub fn number_of(outcome: Result<(), Refusal>) -> u32
+    ensures { result ≡ number outcome }
 {
-    match r {
-        Returned::WorkedThrough => 0,
-        Returned::SiteLength => 1,
-        Returned::SiteField => 2,
-        Returned::SiteTwice => 3,
-        Returned::SiteMissing => 4,
-        Returned::StateLength => 5,
-        Returned::StateForm => 6,
-        Returned::JournalLength => 10,
-        Returned::AnswersLength => 11,
+    match outcome {
+        Ok(()) => 0,
+        Err(refusal) => refusal as u32,
     }
-}
-
-pub fn is_worked(r: Returned) -> bool
-    ensures { result ≡ is_worked r }
-{
-    number_of(r) == 0
 }
 
 // The site check: refusals 1 to 4.
-pub fn check_site(site: &[u8]) -> Returned
+pub fn check_site(site: &[u8]) -> Result<(), Refusal>
     ensures { result ≡ check_site site.now }
 {
-    let mut index = [UNBUILT; INDEX_SIZE];
-    site::check::check_site(site, &mut index)
+    let mut words = [UNBUILT; INDEX_SIZE];
+    site::check::check_site(site, &mut words)?;
+    Ok(())
 }
 
-fn fresh_returned(site: &[u8], index: &mut [u16], state: &[u8]) -> Returned
-    requires { length index.old ≡ index_size }
-    ensures { Checked result (fresh_returned site.now state.now) site.now index.new }
+// Refusals 1 to 5; else the site with its index.
+fn fresh_checked<'a>(
+    site: &'a [u8],
+    words: &'a mut Words,
+    state: &[u8],
+) -> Result<IndexedSite<'a>, Refusal>
+    ensures value { outcome result ≡ fresh_returned site.now state.now }
+    ensures site { IfOk result (λ s. s ≡ site.now) }
 {
-    let r = site::check::check_site(site, index);
-    if !is_worked(r) {
-        return r;
-    }
+    let indexed = site::check::check_site(site, words)?;
     if state.len() != site.len() {
-        return Returned::StateLength;
+        return Err(Refusal::StateLength);
     }
-    Returned::WorkedThrough
+    Ok(indexed)
 }
 
 // The fresh state: refusals 1 to 5; turned back, the state stays as it was.
-pub fn make_fresh(site: &[u8], state: &mut [u8]) -> Returned
+pub fn make_fresh(site: &[u8], state: &mut [u8]) -> Result<(), Refusal>
     ensures { fresh_result result state.new ≡ fresh_state site.now state.old }
 {
-    let mut index = [UNBUILT; INDEX_SIZE];
-    let r = fresh_returned(site, &mut index, state);
-    if !is_worked(r) {
-        return r;
-    }
+    let mut words = [UNBUILT; INDEX_SIZE];
+    fresh_checked(site, &mut words, state)?;
     state::fresh::write_fresh_state(site, state);
-    r
+    Ok(())
 }
 
-fn state_returned(site: &[u8], index: &mut [u16], state: &[u8]) -> Returned
-    requires { length index.old ≡ index_size }
-    ensures { Checked result (check_state site.now state.now) site.now index.new }
+// Refusals 1 to 6; else the site with its index.
+fn state_checked<'a>(
+    site: &'a [u8],
+    words: &'a mut Words,
+    state: &[u8],
+) -> Result<IndexedSite<'a>, Refusal>
+    ensures value { outcome result ≡ check_state site.now state.now }
+    ensures site { IfOk result (λ s. s ≡ site.now) }
 {
-    let r = fresh_returned(site, index, state);
-    if !is_worked(r) {
-        return r;
+    let indexed = fresh_checked(site, words, state)?;
+    if !state::well::is_well_formed(&indexed, state) {
+        return Err(Refusal::StateForm);
     }
-    if !state::well::is_well_formed(site, index, state) {
-        return Returned::StateForm;
-    }
-    Returned::WorkedThrough
+    Ok(indexed)
 }
 
 // The state check: refusals 1 to 6.
-pub fn check_state(site: &[u8], state: &[u8]) -> Returned
+pub fn check_state(site: &[u8], state: &[u8]) -> Result<(), Refusal>
     ensures { result ≡ check_state site.now state.now }
 {
-    let mut index = [UNBUILT; INDEX_SIZE];
-    state_returned(site, &mut index, state)
+    let mut words = [UNBUILT; INDEX_SIZE];
+    state_checked(site, &mut words, state)?;
+    Ok(())
 }
 
-fn run_returned(
-    site: &[u8],
-    index: &mut [u16],
+// Refusals 1 to 6, 10 and 11; else the site with its index.
+fn run_checked<'a>(
+    site: &'a [u8],
+    words: &'a mut Words,
     state: &[u8],
     journal: &[u8],
     answers: &[u8],
-) -> Returned
-    requires { length index.old ≡ index_size }
-    ensures { Checked result (run_returned site.now state.now journal.now answers.now) site.now index.new }
+) -> Result<IndexedSite<'a>, Refusal>
+    ensures value { outcome result ≡ run_returned site.now state.now journal.now answers.now }
+    ensures site { IfOk result (λ s. s ≡ site.now) }
 {
-    let r = state_returned(site, index, state);
-    if !is_worked(r) {
-        return r;
-    }
+    let indexed = state_checked(site, words, state)?;
     if (journal.len() % ENTRY_SIZE != 0) | (LARGEST_JOURNAL < journal.len()) {
-        return Returned::JournalLength;
+        return Err(Refusal::JournalLength);
     }
     if answers.len() != journal.len() / ENTRY_SIZE * ANSWER_SIZE {
-        return Returned::AnswersLength;
+        return Err(Refusal::AnswersLength);
     }
-    Returned::WorkedThrough
+    Ok(indexed)
 }
 
 // The journal run: refusals 1 to 6, 10, 11; turned back, state and answers stay as they were. A bad entry is refused in its own answer.
-pub fn work_through(site: &[u8], state: &mut [u8], journal: &[u8], answers: &mut [u8]) -> Returned
+pub fn work_through(
+    site: &[u8],
+    state: &mut [u8],
+    journal: &[u8],
+    answers: &mut [u8],
+) -> Result<(), Refusal>
     ensures { run_result result state.new answers.new ≡ run_journal site.now state.old journal.now answers.old }
 {
-    let mut index = [UNBUILT; INDEX_SIZE];
-    let r = run_returned(site, &mut index, state, journal, answers);
-    if !is_worked(r) {
-        return r;
-    }
-    journal::run::run(site, &index, state, journal, answers);
-    r
+    let mut words = [UNBUILT; INDEX_SIZE];
+    let indexed = run_checked(site, &mut words, state, journal, answers)?;
+    journal::run::run(&indexed, state, journal, answers);
+    Ok(())
 }

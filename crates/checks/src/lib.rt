@@ -38,11 +38,7 @@ pub fn asks_rules(v: Situation, before: Option<u16>) -> bool
 pub fn no_verdict() -> Verdict
     ensures { result ≡ no_verdict }
 {
-    Verdict {
-        negative_fits: false,
-        positive_fits: false,
-        positive_located: false,
-    }
+    Verdict::default()
 }
 
 // The event: that of the steps before, else that of steps 6 to 12.

@@ -11,12 +11,6 @@ pub extern "C" fn warblehay_clear(index: &mut [u8; 6080], byte: u32, count: usiz
     ensures { index.new ≡ with_first count (byte % 256) index.old }
 {
     let low = (byte % 256) as u8;
-    let mut i = 0;
-    while i < count {
-        if i == index.len() {
-            return;
-        }
-        index[i] = low;
-        i += 1;
-    }
+    let end = count.min(index.len());
+    index[..end].fill(low);
 }

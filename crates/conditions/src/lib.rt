@@ -5,8 +5,8 @@ ghost use Rattle.std.specs.Prelude.{◌≡◌};
 ghost use Rattle.model.specs.Checks as m;
 ghost use Rattle.model.specs.Checks.{relinquished, still_locked, waiting, into_zone, passback_violated};
 
-use model::numbers::{NONE, SECONDS_OF_MINUTE};
-use model::{Entry, Situation};
+use model::numbers::SECONDS_OF_MINUTE;
+use model::{CredentialId, Entry, Situation, ZoneId};
 
 // The time from `since` to `now`, or 0 where now is earlier.
 pub fn elapsed(now: u32, since: u32) -> u32
@@ -37,14 +37,14 @@ pub fn is_still_locked(v: Situation, e: Entry) -> bool
 pub fn is_waiting(v: Situation) -> bool
     ensures { result ≡ waiting v }
 {
-    v.point_state.waiting_credential.0 != NONE
+    v.point_state.waiting_credential != CredentialId::NONE
 }
 
 // The point leads into a zone.
 pub fn is_into_zone(v: Situation) -> bool
     ensures { result ≡ into_zone v }
 {
-    v.point.zone_to.0 != NONE
+    v.point.zone_to != ZoneId::NONE
 }
 
 // The credential is in Zone_To already, and has not been there for a set timeout.
@@ -54,7 +54,7 @@ pub fn is_passback_violated(v: Situation, e: Entry) -> bool
 {
     !v.credential.passback_exempt
         & is_into_zone(v)
-        & (v.credential_state.zone.0 == v.point.zone_to.0)
+        & (v.credential_state.zone == v.point.zone_to)
         & ((v.zone_to.passback_timeout == 0)
             | (u64::from(elapsed(e.time, v.credential_state.entered))
                 < u64::from(v.zone_to.passback_timeout) * u64::from(SECONDS_OF_MINUTE)))

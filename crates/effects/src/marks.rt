@@ -9,7 +9,7 @@ use model::numbers::{
     DENIED_AUTHENTICATION_FACTOR_ERROR, DENIED_LOCKOUT, DENIED_LOWER_OCCUPANCY_LIMIT, DENIED_OTHER,
     DENIED_UPPER_OCCUPANCY_LIMIT, GRANTED, MARK_EXTENDED_UNLOCK, MARK_FACTOR_READ,
     MARK_LOCKOUT_MAX_ATTEMPTS, MARK_LOCKOUT_RELINQUISHED, MARK_MUSTER, MARK_PASSBACK_DETECTED,
-    MARK_TRACE, NONE, PASSBACK_SOFT,
+    MARK_TRACE, PASSBACK_SOFT,
 };
 use model::{CredentialId, Entry, Situation};
 
@@ -19,7 +19,7 @@ pub fn named_of(v: Situation, x: u16) -> CredentialId
     ensures { result ≡ named v x }
 {
     if !is_waiting(v) & ((x == DENIED_LOCKOUT) | (x == DENIED_AUTHENTICATION_FACTOR_ERROR)) {
-        CredentialId(NONE)
+        CredentialId::NONE
     } else {
         v.number
     }
@@ -54,7 +54,7 @@ pub fn credential_marks(v: Situation, e: Entry, x: u16, c: CredentialId) -> u8
     ensures upper_bound { result ≤ 46 }
 {
     let granted = x == GRANTED;
-    mark((c.0 != NONE) & v.credential.trace, MARK_TRACE)
+    mark((c != CredentialId::NONE) & v.credential.trace, MARK_TRACE)
         + mark(soft_passback(v, e, x), MARK_PASSBACK_DETECTED)
         + mark(granted & v.point.muster, MARK_MUSTER)
         + mark(granted & v.credential.extended_time, MARK_EXTENDED_UNLOCK)

@@ -6,8 +6,8 @@ ghost use Rattle.model.specs.Step.{no_answer, unchanged, refuse, count_outcome, 
 
 use crate::words::next_tag;
 use model::numbers::{
-    ARGUMENT_LOCK, FIRST_NEGATIVE, LOCKOUT_OTHER, LOCKOUT_RELINQUISHED, NO_EVENT, NONE,
-    NOT_REFUSED, REFUSED_COUNT,
+    ARGUMENT_LOCK, FIRST_NEGATIVE, LOCKOUT_OTHER, LOCKOUT_RELINQUISHED, NO_EVENT, NOT_REFUSED,
+    REFUSED_COUNT,
 };
 use model::{
     Answer, CredentialId, CredentialState, Entry, Outcome, PointId, PointState, Write, ZoneId,
@@ -23,7 +23,7 @@ fn no_answer(refusal: u8, tag: u32, count: u32) -> Answer
         marks: 0,
         refusal,
         tag,
-        credential: CredentialId(NONE),
+        credential: CredentialId::NONE,
         count,
     }
 }
@@ -143,7 +143,7 @@ fn service_after(e: Entry, held: PointState) -> PointState
 {
     let locking = is_lock(e);
     let waiting_credential = if locking {
-        CredentialId(NONE)
+        CredentialId::NONE
     } else {
         held.waiting_credential
     };

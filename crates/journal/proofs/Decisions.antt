@@ -7,13 +7,13 @@ use mathlib.Core.List.{List, [], ◌∷◌}
 use mathlib.Core.Bool.{Bool, true, false, not}
 use lib.Dec.{ltb}
 use lib.ListN.{length}
-use Rattle.octets.proofs.Groups.{length_groups, length_group}
+use Rattle.octets.proofs.GroupLaws.{length_groups, length_group}
 use Rattle.model.specs.Words.{missing}
 use Rattle.model.specs.Numbers as n
 use Rattle.model.specs.Site.{records, point_of}
 use Rattle.model.specs.State.{panel, state_of, find, count}
 use Rattle.model.specs.Entry.{operation_of, object_kind, in_form}
-use Rattle.model.specs.Step.{no_point, no_credential, no_count, unchanged, refuse, zone_to, factor_outcome, count_outcome, adjusted, adjust_outcome, disable_outcome, service_outcome, worked_outcome, outcome_as, entry_outcome, apply}
+use Rattle.model.specs.Step.{unchanged, refuse, zone_to, factor_outcome, count_outcome, adjusted, adjust_outcome, disable_outcome, service_outcome, worked_outcome, outcome_as, entry_outcome, apply}
 use Rattle.model.proofs.Laws.{if_holds}
 use Rattle.site.specs.Place.{place_of}
 use Rattle.site.proofs.Places.{place_found}
@@ -21,11 +21,12 @@ use Rattle.journal.specs.Places.{part_at, object_place, applied, Placed}
 use Rattle.journal.specs.Gather.{to_at, count_to}
 use Rattle.journal.specs.Decide.{read_outcome, object_places, at_object, served_at, read_at, worked_at, found_at, decided_as, decided_on}
 use Rattle.journal.proofs.At.{find_at, seek_at, apply_at, state_of_panel}
-use Rattle.journal.proofs.Situations.{situation_at, rules_at_law, placed_factor}
-use Rattle.site.specs.declared.Place.{Place}
-use Rattle.site.specs.declared.Place.TheVariants.{At, Nothing}
+use Rattle.journal.proofs.Situations.{situation_at, rules_at_law, placed_none, placed_some, placed_factor}
 use Rattle.journal.specs.declared.Places.{Places}
 use Rattle.journal.specs.declared.Decided.{Decided}
+use Rattle.model.specs.declared.ZoneId.{ZoneId}
+use Rattle.model.specs.declared.PointId.{PointId}
+use Rattle.model.specs.declared.CredentialId.{CredentialId}
 use Rattle.model.specs.declared.Answer.{Answer}
 use Rattle.model.specs.declared.Entry.{Entry}
 use Rattle.model.specs.declared.Operation.{Operation}
@@ -35,30 +36,54 @@ use Rattle.model.specs.declared.Operation.TheVariants.{Factor, SetCount, AdjustC
 
 -- What writes nothing names nothing.
 placed_unchanged : (site : List ℕ) (a : Answer) (at : Places) → Placed site (unchanged a) at
-unfolding unchanged no_point no_credential no_count
-placed_unchanged site a at = record { point = λ h. cc; credential = λ h. cc; zone_to = λ h. cc; zone_from = λ h. cc }
+unfolding unchanged
+placed_unchanged site a at =
+    record {
+      point = placed_none 2 (λ (i : PointId). i.0) site _;
+      credential = placed_none 4 (λ (i : CredentialId). i.0) site _;
+      zone_to = placed_none 1 (λ (i : ZoneId). i.0) site _;
+      zone_from = placed_none 1 (λ (i : ZoneId). i.0) site _;
+    }
 
 placed_refused : (site : List ℕ) (refusal : ℕ) (at : Places) → Placed site (refuse refusal) at
 unfolding refuse
 placed_refused site refusal at = placed_unchanged site _ at
 
-module _ (site state : List ℕ) (e : Entry) (place : Place) where
+module _ (site state : List ℕ) (e : Entry) (place : Option ℕ) where
   placed_count : (counted : ℕ) → place ≡ place_of n.access_zone e.instance site → Placed site (count_outcome e counted) (object_places place)
-  unfolding count_outcome no_point no_credential no_count
-  placed_count counted p = record { point = λ h. cc; credential = λ h. cc; zone_to = λ h. p; zone_from = λ h. cc }
+  unfolding count_outcome
+  placed_count counted p =
+      record {
+        point = placed_none 2 (λ (i : PointId). i.0) site _;
+        credential = placed_none 4 (λ (i : CredentialId). i.0) site _;
+        zone_to = placed_some 1 (λ (i : ZoneId). i.0) site _ _ (λ h. p);
+        zone_from = placed_none 1 (λ (i : ZoneId). i.0) site _;
+      }
 
   placed_worked : (o : Option Operation) → place ≡ place_of (object_kind o) e.instance site →
       Placed site (worked_at o place e site state).outcome (worked_at o place e site state).places
-  unfolding read_at served_at read_outcome adjust_outcome disable_outcome service_outcome no_point no_credential no_count
+  unfolding read_at served_at read_outcome adjust_outcome disable_outcome service_outcome
   placed_worked (Some Factor) p =
-      if_holds (λ (d : Decided). Placed site d.outcome d.places) (point_of (part_at place site)).out_of_service (at_object (unchanged _) Nothing) (served_at place e site state)
+      if_holds (λ (d : Decided). Placed site d.outcome d.places) (point_of (part_at place site)).out_of_service (at_object (unchanged _) None) (served_at place e site state)
       (placed_unchanged site _ _) (placed_factor site state place e _ p)
   placed_worked (Some SetCount) p = placed_count e.amount p
   placed_worked (Some AdjustCount) p =
       if_holds (λ u. Placed site u (object_places place)) (ltb n.largest_count (adjusted (count (part_at place state)) e.amount)) (refuse n.refused_count) _
       (placed_refused site _ _) (placed_count _ p)
-  placed_worked (Some SetDisable) p = record { point = λ h. cc; credential = λ h. p; zone_to = λ h. cc; zone_from = λ h. cc }
-  placed_worked (Some SetService) p = record { point = λ h. p; credential = λ h. cc; zone_to = λ h. cc; zone_from = λ h. cc }
+  placed_worked (Some SetDisable) p =
+      record {
+        point = placed_none 2 (λ (i : PointId). i.0) site _;
+        credential = placed_some 4 (λ (i : CredentialId). i.0) site _ _ (λ h. p);
+        zone_to = placed_none 1 (λ (i : ZoneId). i.0) site _;
+        zone_from = placed_none 1 (λ (i : ZoneId). i.0) site _;
+      }
+  placed_worked (Some SetService) p =
+      record {
+        point = placed_some 2 (λ (i : PointId). i.0) site _ _ (λ h. p);
+        credential = placed_none 4 (λ (i : CredentialId). i.0) site _;
+        zone_to = placed_none 1 (λ (i : ZoneId). i.0) site _;
+        zone_from = placed_none 1 (λ (i : ZoneId). i.0) site _;
+      }
   placed_worked None p = placed_refused site _ _
 
 -- ── the object
@@ -68,12 +93,12 @@ missing_none [] h = absurd (omega arith)
 missing_none (x ∷ s) h = refl
 
 -- The record at the place of a record is there.
-there : (k i j : ℕ) (site : List ℕ) → place_of k i site ≡ At j → missing (part_at (At j) site) ≡ false
+there : (k i j : ℕ) (site : List ℕ) → place_of k i site ≡ Some j → missing (part_at (Some j) site) ≡ false
 unfolding records
 there k i j site p =
     let h = place_found k i j site p in
     let l : j < length site / 32 = rw (length_groups 32 (length site / 32) site) at h.0 in
-    missing_none (part_at (At j) site) (length_group 32 (length site / 32) j site l (omega arith))
+    missing_none (part_at (Some j) site) (length_group 32 (length site / 32) j site l (omega arith))
 
 -- An entry that has the form is of a known operation, whose object is looked up by its kind.
 object_place_law : (o : Option Operation) (e : Entry) (site : List ℕ) → in_form o e ≡ true → object_place o e.instance site ≡ place_of (object_kind o) e.instance site
@@ -92,16 +117,16 @@ outcome_if true d f = refl
 outcome_if false d f = refl
 
 module _ (site state : List ℕ) (whole_site : length site % 32 ≡ 0) (same_length : length state ≡ length site) (e : Entry) where
-  zone_count_law : (place : Place) → count (zone_to (panel site state) (part_at place site, part_at place state)).1 ≡ count_to place site state
+  zone_count_law : (place : Option ℕ) → count (zone_to (panel site state) (part_at place site, part_at place state)).1 ≡ count_to place site state
   unfolding zone_to count_to to_at
   zone_count_law place = rw (seek_at site state whole_site same_length 1 (point_of (part_at place site)).zone_to.0)
 
-  worked_outcome_law : (o : Option Operation) (place : Place) →
+  worked_outcome_law : (o : Option Operation) (place : Option ℕ) →
       (worked_at o place e site state).outcome ≡ worked_outcome o (panel site state) e (part_at place site, part_at place state)
   unfolding read_at served_at read_outcome factor_outcome
   worked_outcome_law (Some Factor) place =
       rw (situation_at site state whole_site same_length place e, rules_at_law site state whole_site same_length place e, zone_count_law place)
-      (outcome_if (point_of (part_at place site)).out_of_service (at_object (unchanged _) Nothing) (served_at place e site state))
+      (outcome_if (point_of (part_at place site)).out_of_service (at_object (unchanged _) None) (served_at place e site state))
   worked_outcome_law (Some SetCount) place = refl
   worked_outcome_law (Some AdjustCount) place = refl
   worked_outcome_law (Some SetDisable) place = refl
@@ -109,18 +134,18 @@ module _ (site state : List ℕ) (whole_site : length site % 32 ≡ 0) (same_len
   worked_outcome_law None place = refl
 
   -- Of an entry that has the form.
-  found_outcome : (o : Option Operation) (place : Place) → place_of (object_kind o) e.instance site ≡ place →
+  found_outcome : (o : Option Operation) (place : Option ℕ) → place_of (object_kind o) e.instance site ≡ place →
       (found_at o place e site state).outcome
       ≡ (if missing (find (object_kind o) e.instance (panel site state)).0 then refuse n.refused_no_object
       else worked_outcome o (panel site state) e (find (object_kind o) e.instance (panel site state)))
-  found_outcome o (At j) p =
-      rw (find_at site state whole_site same_length (object_kind o) e.instance, p, there (object_kind o) e.instance j site p) (worked_outcome_law o (At j))
-  found_outcome o Nothing p = rw (find_at site state whole_site same_length (object_kind o) e.instance, p)
+  found_outcome o (Some j) p =
+      rw (find_at site state whole_site same_length (object_kind o) e.instance, p, there (object_kind o) e.instance j site p) (worked_outcome_law o (Some j))
+  found_outcome o None p = rw (find_at site state whole_site same_length (object_kind o) e.instance, p)
 
-  found_placed : (o : Option Operation) (place : Place) → place_of (object_kind o) e.instance site ≡ place →
+  found_placed : (o : Option Operation) (place : Option ℕ) → place_of (object_kind o) e.instance site ≡ place →
       Placed site (found_at o place e site state).outcome (found_at o place e site state).places
-  found_placed o (At j) p = placed_worked site state e (At j) o (sym p)
-  found_placed o Nothing p = placed_refused site _ _
+  found_placed o (Some j) p = placed_worked site state e (Some j) o (sym p)
+  found_placed o None p = placed_refused site _ _
 
   -- Of any entry.
   as_outcome : (o : Option Operation) → (decided_as o e site state).outcome ≡ outcome_as o (panel site state) e (find (object_kind o) e.instance (panel site state))
@@ -128,7 +153,7 @@ module _ (site state : List ℕ) (whole_site : length site % 32 ≡ 0) (same_len
   as_outcome o = go (in_form o e) refl
     where
       go : (c : Bool) → in_form o e ≡ c →
-          (if not c then at_object (refuse n.refused_form) Nothing else found_at o (object_place o e.instance site) e site state).outcome
+          (if not c then at_object (refuse n.refused_form) None else found_at o (object_place o e.instance site) e site state).outcome
           ≡ (if not c then refuse n.refused_form else
           if missing (find (object_kind o) e.instance (panel site state)).0 then refuse n.refused_no_object
           else worked_outcome o (panel site state) e (find (object_kind o) e.instance (panel site state)))
@@ -140,8 +165,8 @@ module _ (site state : List ℕ) (whole_site : length site % 32 ≡ 0) (same_len
   as_placed o = go (in_form o e) refl
     where
       go : (c : Bool) → in_form o e ≡ c →
-          Placed site (if not c then at_object (refuse n.refused_form) Nothing else found_at o (object_place o e.instance site) e site state).outcome
-          (if not c then at_object (refuse n.refused_form) Nothing else found_at o (object_place o e.instance site) e site state).places
+          Placed site (if not c then at_object (refuse n.refused_form) None else found_at o (object_place o e.instance site) e site state).outcome
+          (if not c then at_object (refuse n.refused_form) None else found_at o (object_place o e.instance site) e site state).places
       go true f = rw (object_place_law o e site f) (found_placed o (place_of (object_kind o) e.instance site) refl)
       go false f = placed_refused site _ _
 

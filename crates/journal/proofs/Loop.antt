@@ -6,7 +6,7 @@ use mathlib.Core.List.{List, [], ◌∷◌, ◌++◌, append-nil, map, map-appen
 use lib.ListN.{length, take, drop, get_or, length-map, get_or-map, drop_of_length-le}
 use lib.Seq.{take_all, take-suc, length-take-le}
 use Rattle.octets.specs.Octets.{groups, with_part}
-use Rattle.octets.proofs.Groups.{length_groups, group_at}
+use Rattle.octets.proofs.GroupLaws.{length_groups, group_at}
 use Rattle.octets.proofs.Written.{flatten_append, part_behind}
 use Rattle.model.specs.State.{Panel, panel, state_of}
 use Rattle.model.specs.Entry.{entry_of, entries, answer_bytes}

@@ -1,38 +1,35 @@
 -- What is gathered at a point's place is the situation at the panel there, and the places are those of the records that its outcome names.
-use Rattle.std.specs.Prelude.{if◌then◌else◌}
+use Rattle.std.specs.Prelude.{if◌then◌else◌, Option, Some, None}
 use Prim.Native.Nat.{ℕ, ◌%◌}
 use mathlib.Core.Path.{◌≡◌, refl}
 use mathlib.Core.List.{List}
 use mathlib.Core.Bool.{Bool, true, false, not, ◌&&◌, ◌||◌}
 use lib.Dec.{eqb}
 use lib.ListN.{length}
-use Rattle.model.specs.Words.{missing}
 use Rattle.model.specs.Numbers as n
 use Rattle.model.specs.Numbers.{NONE}
-use Rattle.model.specs.Site.{credential_id, records, zone_of, point_of, credential_of, factor_disable}
-use Rattle.model.specs.State.{panel, count, point_state_of, credential_state_of}
-use Rattle.model.specs.Checks.{waiting, factor_for, credential_read}
-use Rattle.model.specs.Effects.{named, outcome_with, outcome_of}
+use Rattle.model.specs.Site.{credential_id, records}
+use Rattle.model.specs.State.{panel}
+use Rattle.model.specs.Checks.{waiting}
+use Rattle.model.specs.Effects.{counts, named, outcome_with, outcome_of}
 use Rattle.model.specs.Step.{factor_read, number_read, zone_to, zone_from, credential_at, situation_of, rules_at}
 use Rattle.model.proofs.Flat.{sites_panel}
 use Rattle.site.specs.Place.{place_of}
-use Rattle.journal.specs.Places.{part_at, seek_place, seek_zone, seek_credential, Placed}
+use Rattle.journal.specs.Places.{part_at, seek_place, PlacedAt, Placed}
 use Rattle.journal.specs.Gather.{waiting_at, factor_at, number_at, to_at, from_at, held_at, gathered}
 use Rattle.journal.specs.Decide.{rules_of}
 use Rattle.journal.proofs.At.{seek_at}
-use Rattle.site.specs.declared.Place.{Place}
 use Rattle.model.specs.declared.CredentialId.{CredentialId}
 use Rattle.model.specs.declared.Entry.{Entry}
 use Rattle.model.specs.declared.Situation.{Situation}
-use Rattle.model.specs.declared.Zone.{Zone}
-use Rattle.model.specs.declared.Point.{Point}
-use Rattle.model.specs.declared.PointState.{PointState}
-use Rattle.model.specs.declared.Credential.{Credential}
+use Rattle.model.specs.declared.ZoneId.{ZoneId}
+use Rattle.model.specs.declared.PointId.{PointId}
+use Rattle.model.specs.declared.Write.{Write}
 use Rattle.model.specs.declared.CredentialState.{CredentialState}
 
 module _ (site state : List ℕ) (whole_site : length site % 32 ≡ 0) (same_length : length state ≡ length site) where
   -- The situation at the panel is what is gathered at the point's place.
-  pub situation_at : (place : Place) (e : Entry) → situation_of (panel site state) e (part_at place site, part_at place state) ≡ (gathered place e site state).situation
+  pub situation_at : (place : Option ℕ) (e : Entry) → situation_of (panel site state) e (part_at place site, part_at place state) ≡ (gathered place e site state).situation
   unfolding situation_of factor_read number_read zone_to zone_from credential_at gathered waiting_at factor_at number_at to_at from_at held_at
   situation_at place e =
       rw (
@@ -43,7 +40,7 @@ module _ (site state : List ℕ) (whole_site : length site % 32 ≡ 0) (same_len
       )
 
   -- The rules are asked of the site's records.
-  pub rules_at_law : (place : Place) (e : Entry) →
+  pub rules_at_law : (place : Option ℕ) (e : Entry) →
       rules_at (panel site state) e (part_at place site, part_at place state)
       ≡ rules_of (gathered place e site state).situation e (records site)
   unfolding rules_at
@@ -63,50 +60,46 @@ named_read v x h = go (not (waiting v) && (eqb x 161 || eqb x 148)) h
     go true h = cc
     go false h = refl
 
-pub placed_factor : (site state : List ℕ) (place : Place) (e : Entry) (x : ℕ) → place ≡ place_of n.access_point e.instance site →
+-- ── what an outcome writes stands at its place
+
+some_same : {A : Type 0} {x y : A} → Some x ≡ Some y → x ≡ y
+some_same h = cc
+
+module _ {I S : Type 0} (k : ℕ) (i : I → ℕ) (site : List ℕ) where
+  pub placed_none : (p : Option ℕ) → PlacedAt {I} {S} k i site None p
+  placed_none p v q h = cc
+
+  pub placed_some : (w : Write I S) (p : Option ℕ) → (eqb (i w.instance) NONE ≡ false → p ≡ place_of k (i w.instance) site) →
+      PlacedAt k i site (Some w) p
+  placed_some w p h v q = rw (some_same q) at h
+
+  pub placed_if : (c : Bool) (w : Write I S) (p : Option ℕ) → (eqb (i w.instance) NONE ≡ false → p ≡ place_of k (i w.instance) site) →
+      PlacedAt k i site (if c then Some w else None) p
+  placed_if true w p h = placed_some w p h
+  placed_if false w p h = placed_none p
+
+pub placed_factor : (site state : List ℕ) (place : Option ℕ) (e : Entry) (x : ℕ) → place ≡ place_of n.access_point e.instance site →
     Placed site (outcome_of (gathered place e site state).situation e x) (gathered place e site state).places
 unfolding outcome_of outcome_with gathered to_at from_at held_at
 placed_factor site state place e x p =
     record {
-      point = λ h. p;
-      credential = λ h. held (named_read (gathered place e site state).situation x h) h;
-      zone_to = λ h. sought 1 _ site h;
-      zone_from = λ h. sought 1 _ site h;
+      point = placed_some 2 (λ (i : PointId). i.0) site _ place (λ h. p);
+      credential =
+          unwritten (eqb x n.no_event) _
+          (λ h. held (named_read (gathered place e site state).situation x h) h);
+      zone_to = placed_if 1 (λ (i : ZoneId). i.0) site (counts v x v.zone_to.counting) _ _ (λ h. sought 1 _ site h);
+      zone_from = placed_if 1 (λ (i : ZoneId). i.0) site (counts v x v.zone_from.counting) _ _ (λ h. sought 1 _ site h);
     }
   where
-    held : {c : CredentialId} → c ≡ number_at place e site state → eqb c.0 NONE ≡ false → seek_credential (number_at place e site state) site ≡ place_of 4 c.0 site
+    v : Situation
+    v = (gathered place e site state).situation
+
+    held : {c : CredentialId} → c ≡ number_at place e site state → eqb c.0 NONE ≡ false →
+        seek_place 4 (number_at place e site state).0 site ≡ place_of 4 c.0 site
     held q h = rw q (sought 4 (number_at place e site state).0 site (rw q at h))
 
--- What the calls give, one after the other, is what is gathered.
-pub gathered_from : (place : Place) (e : Entry) (site state : List ℕ)
-    {p q f p₁ q₁ p₂ q₂ p₃ q₃ : List ℕ} {point : Point} {held : PointState} {number : CredentialId} {count₁ count₂ disable : ℕ} {to from credential : Place}
-    {zone₁ zone₂ : Zone} {matched : Bool} {card : Credential} {kept : CredentialState} →
-    p ≡ part_at place site → point ≡ point_of p → q ≡ part_at place state → held ≡ point_state_of q →
-    f ≡ factor_for held.waiting_credential e (records site) → number ≡ credential_read held.waiting_credential f →
-    to ≡ seek_zone point.zone_to site → from ≡ seek_zone point.zone_from site →
-    credential ≡ seek_credential number site →
-    p₁ ≡ part_at to site → zone₁ ≡ zone_of p₁ → q₁ ≡ part_at to state → count₁ ≡ count q₁ →
-    p₂ ≡ part_at from site → zone₂ ≡ zone_of p₂ → q₂ ≡ part_at from state → count₂ ≡ count q₂ →
-    matched ≡ not (missing f) → disable ≡ factor_disable f →
-    p₃ ≡ part_at credential site → card ≡ credential_of p₃ → q₃ ≡ part_at credential state → kept ≡ credential_state_of q₃ →
-    record {
-      situation =
-          record {
-            point = point;
-            point_state = held;
-            zone_to = zone₁;
-            count_to = count₁;
-            zone_from = zone₂;
-            count_from = count₂;
-            matched = matched;
-            factor_disable = disable;
-            number = number;
-            credential = card;
-            credential_state = kept;
-          };
-      places = record { point = place; credential = credential; zone_to = to; zone_from = from };
-    }
-    ≡ gathered place e site state
-unfolding waiting_at factor_at number_at to_at from_at held_at gathered
-gathered_from place e site state hp hpoint hq hheld hf hnumber hto hfrom hcredential hp₁ hz₁ hq₁ hc₁ hp₂ hz₂ hq₂ hc₂ hm hd hp₃ hcard hq₃ hkept =
-    rw (hkept, hq₃, hcard, hp₃, hd, hm, hc₂, hq₂, hz₂, hp₂, hc₁, hq₁, hz₁, hp₁, hcredential, hfrom, hto, hnumber, hf, hheld, hq, hpoint, hp)
+    unwritten : (c : Bool) (w : Write CredentialId CredentialState) →
+        (eqb w.instance.0 NONE ≡ false → held_at place e site state ≡ place_of 4 w.instance.0 site) →
+        PlacedAt 4 (λ (i : CredentialId). i.0) site (if c then None else Some w) (held_at place e site state)
+    unwritten true w h = placed_none 4 (λ (i : CredentialId). i.0) site _
+    unwritten false w h = placed_some 4 (λ (i : CredentialId). i.0) site w _ h

@@ -9,8 +9,6 @@ use Rattle.model.specs.Effects.{outcome_of}
 use Rattle.model.specs.Step.{no_answer, unchanged, refuse, count_outcome, adjust_outcome, disable_outcome, service_outcome}
 use Rattle.journal.specs.Places.{part_at, object_place}
 use Rattle.journal.specs.Gather.{gathered, count_to}
-use Rattle.site.specs.declared.Place.{Place}
-use Rattle.site.specs.declared.Place.TheVariants.{At, Nothing}
 use Rattle.model.specs.declared.Situation.{Situation}
 use Rattle.model.specs.declared.Verdict.{Verdict}
 use Rattle.model.specs.declared.Entry.{Entry}
@@ -30,14 +28,14 @@ unfoldable pub read_outcome : Situation → Verdict → Entry → Outcome
 read_outcome v rules e = outcome_of v e (event_of v rules e)
 
 -- Operations 2 to 5 write the record of their object alone.
-abbrev pub object_places : Place → Places
-object_places place = record { point = place; credential = place; zone_to = place; zone_from = Nothing }
+abbrev pub object_places : Option ℕ → Places
+object_places place = record { point = place; credential = place; zone_to = place; zone_from = None }
 
-abbrev pub at_object : Outcome → Place → Decided
+abbrev pub at_object : Outcome → Option ℕ → Decided
 at_object o place = record { outcome = o; places = object_places place }
 
 -- A factor read at the point that stands at a place, in service.
-unfoldable pub served_at : Place → Entry → List ℕ → List ℕ → Decided
+unfoldable pub served_at : Option ℕ → Entry → List ℕ → List ℕ → Decided
 served_at place e site state =
     record {
       outcome =
@@ -46,14 +44,14 @@ served_at place e site state =
     }
 
 -- And in service or not: out of service the tag as held and Zone_To's count are all that is asked.
-unfoldable pub read_at : Place → Entry → List ℕ → List ℕ → Decided
+unfoldable pub read_at : Option ℕ → Entry → List ℕ → List ℕ → Decided
 read_at place e site state =
     if (point_of (part_at place site)).out_of_service
-    then at_object (unchanged (no_answer n.not_refused (point_state_of (part_at place state)).tag (count_to place site state))) Nothing
+    then at_object (unchanged (no_answer n.not_refused (point_state_of (part_at place state)).tag (count_to place site state))) None
     else served_at place e site state
 
 -- The operation at its object, which stands at a place.
-abbrev pub worked_at : Option Operation → Place → Entry → List ℕ → List ℕ → Decided
+abbrev pub worked_at : Option Operation → Option ℕ → Entry → List ℕ → List ℕ → Decided
 worked_at (Some Factor) place e site state = read_at place e site state
 worked_at (Some SetCount) place e site state = at_object (count_outcome e e.amount) place
 worked_at (Some AdjustCount) place e site state = at_object (adjust_outcome e (count (part_at place state))) place
@@ -63,14 +61,14 @@ worked_at (Some SetService) place e site state =
 worked_at None place e site state = at_object (refuse n.refused_form) place
 
 -- The same, or refusal 8 where there is no object.
-abbrev pub found_at : Option Operation → Place → Entry → List ℕ → List ℕ → Decided
-found_at o (At j) e site state = worked_at o (At j) e site state
-found_at o Nothing e site state = at_object (refuse n.refused_no_object) Nothing
+abbrev pub found_at : Option Operation → Option ℕ → Entry → List ℕ → List ℕ → Decided
+found_at o (Some j) e site state = worked_at o (Some j) e site state
+found_at o None e site state = at_object (refuse n.refused_no_object) None
 
 -- An entry: refusal 7 where it has not the form, then its object.
 unfoldable pub decided_as : Option Operation → Entry → List ℕ → List ℕ → Decided
 decided_as o e site state =
-    if not (in_form o e) then at_object (refuse n.refused_form) Nothing
+    if not (in_form o e) then at_object (refuse n.refused_form) None
     else found_at o (object_place o e.instance site) e site state
 
 unfoldable pub decided_on : List ℕ → List ℕ → Entry → Decided

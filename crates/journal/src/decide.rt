@@ -4,39 +4,35 @@ ghost use Rattle.std.specs.Prelude.{◌≡◌};
 ghost use Rattle.model.specs.Site.{records};
 ghost use Rattle.model.specs.Checks.{event_of};
 ghost use Rattle.checks.specs.Moves.{before_permission};
-ghost use Rattle.index.specs.Index.{Indexed};
 ghost use Rattle.journal.specs.Decide.{rules_of, read_outcome};
 
 use effects::outcome;
+use index::IndexedSite;
 use model::{Entry, Outcome, PointId, Situation, Verdict};
 use rules::Asked;
 
 // What the rules say, where step 9 asks them; else nothing, which changes no event.
-fn rules_for(site: &[u8], index: &[u16], v: Situation, e: Entry, before: u16) -> Verdict
-    requires { Indexed site.now index.now × (before ≡ before_permission v e) }
+fn rules_for(site: &IndexedSite, v: Situation, e: Entry, before: Option<u16>) -> Verdict
+    requires { before ≡ before_permission v e }
     ensures { event_of v result e ≡ event_of v (rules_of v e (records site.now)) e }
 {
     if !checks::asks_rules(v, before) {
         return checks::no_verdict();
     }
-    let first = v.credential.first_rights;
-    let second = v.credential.second_rights;
-    let to = v.point.zone_to;
     let asked = Asked {
-        first: first,
-        second: second,
+        first: v.credential.first_rights,
+        second: v.credential.second_rights,
         point: PointId(e.instance),
-        to: to,
+        to: v.point.zone_to,
         time: e.time,
     };
-    rules::verdict_of(site, index, asked)
+    rules::verdict_of(site, asked)
 }
 
-pub fn decide(site: &[u8], index: &[u16], v: Situation, e: Entry) -> Outcome
-    requires { Indexed site.now index.now }
+pub fn decide(site: &IndexedSite, v: Situation, e: Entry) -> Outcome
     ensures { result ≡ read_outcome v (rules_of v e (records site.now)) e }
 {
     let before = checks::before_permission(v, e);
-    let rules = rules_for(site, index, v, e, before);
+    let rules = rules_for(site, v, e, before);
     outcome::factor_outcome(v, e, checks::event_after(v, rules, e, before))
 }

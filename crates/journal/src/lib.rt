@@ -10,15 +10,14 @@ pub mod step; // step.rt: one entry
 pub mod run; // run.rt: all entries of a journal
 
 use model::{Outcome, Situation};
-use site::Place;
 
 // Where the records stand that an entry may write.
 #[derive(Clone, Copy)]
 pub struct Places {
-    pub point: Place,
-    pub credential: Place,
-    pub zone_to: Place,
-    pub zone_from: Place,
+    pub point: Option<usize>,
+    pub credential: Option<usize>,
+    pub zone_to: Option<usize>,
+    pub zone_from: Option<usize>,
 }
 
 // What a factor read looks at, and where its records stand.

@@ -1,43 +1,41 @@
 // Where the object of an entry stands, and the records there.
-ghost use Rattle.std.specs.Prelude.{◌≡◌, [], ◌/◌, length, get_or};
-ghost use Rattle.octets.specs.Octets.{groups};
-ghost use Rattle.records.specs.Part.{Part};
-ghost use Rattle.index.specs.Index.{Indexed};
+ghost use Rattle.std.specs.Prelude.{◌≡◌, ◌/◌, [], length};
+ghost use Rattle.std.specs.Option.{unwrap_or, option_copied};
 ghost use Rattle.journal.specs.Places.{part_at, object_place};
 
+use index::IndexedSite;
 use model::{CredentialId, Operation, PointId, ZoneId};
-use site::{Place, indexed};
+use records::{FromRecord, Record};
+use site::indexed;
 
-fn group_or_none(bytes: &[u8], i: usize) -> &[u8]
-    ensures { (result.now ≡ get_or (groups 32 (length bytes.now / 32) bytes.now) i []) × Part result.now }
+// The record at a place, where there is one.
+pub fn part_at(bytes: &[u8], place: Option<usize>) -> Option<&Record>
+    ensures { unwrap_or (option_copied result) [] ≡ part_at place bytes.now }
 {
-    if i < octets::group_count(bytes) {
-        return octets::group(bytes, i);
-    }
-    &bytes[..0]
+    octets::groups(bytes).get(place?)
 }
 
-// The record at a place, as a part of the slice; the empty part where there is none.
-pub fn part_at(bytes: &[u8], place: Place) -> &[u8]
-    ensures { (result.now ≡ part_at place bytes.now) × Part result.now }
+// What is read of the record at a place, or of none.
+pub fn read_at<R: FromRecord>(bytes: &[u8], place: Option<usize>) -> R
+    ensures { result ≡ R.of_record (part_at place bytes.now) }
 {
-    match place {
-        Place::At(i) => group_or_none(bytes, i),
-        Place::Nothing => &bytes[..0],
+    match part_at(bytes, place) {
+        Some(part) => R::from_record(part),
+        None => R::missing(),
     }
 }
 
 // The place of the object that an instance names under an operation; an unknown one names none.
-pub fn object_place(site: &[u8], index: &[u16], o: Operation, instance: u32) -> Place
-    requires { Indexed site.now index.now }
-    ensures { result ≡ object_place o instance site.now }
+pub fn object_place(
+    site: &IndexedSite,
+    operation: Option<Operation>,
+    instance: u32,
+) -> Option<usize>
+    ensures { result ≡ object_place operation instance site.now }
 {
-    match o {
-        Operation::Factor => indexed::place_of_point(site, index, PointId(instance)),
-        Operation::SetCount => indexed::place_of_zone(site, index, ZoneId(instance)),
-        Operation::AdjustCount => indexed::place_of_zone(site, index, ZoneId(instance)),
-        Operation::SetDisable => indexed::place_of_credential(site, index, CredentialId(instance)),
-        Operation::SetService => indexed::place_of_point(site, index, PointId(instance)),
-        Operation::Unknown => Place::Nothing,
+    match operation? {
+        Operation::Factor | Operation::SetService => indexed::place_of(site, PointId(instance)),
+        Operation::SetCount | Operation::AdjustCount => indexed::place_of(site, ZoneId(instance)),
+        Operation::SetDisable => indexed::place_of(site, CredentialId(instance)),
     }
 }

@@ -5,18 +5,36 @@
 pub mod numbers; // numbers.rt: the numbers of document 01 by name
 pub mod layout; // layout.rt: where the fields of records, entries and answers stand
 
+use numbers::NONE;
+
 // Instances are numbered per object type, so that zone 7 is never credential 7: a number of each type is a type of its own.
 #[derive(Clone, Copy, PartialEq, Eq)]
 pub struct ZoneId(pub u32);
 
+impl ZoneId {
+    pub const NONE: ZoneId = ZoneId(NONE);
+}
+
 #[derive(Clone, Copy, PartialEq, Eq)]
 pub struct PointId(pub u32);
+
+impl PointId {
+    pub const NONE: PointId = PointId(NONE);
+}
 
 #[derive(Clone, Copy, PartialEq, Eq)]
 pub struct CredentialId(pub u32);
 
+impl CredentialId {
+    pub const NONE: CredentialId = CredentialId(NONE);
+}
+
 #[derive(Clone, Copy, PartialEq, Eq)]
 pub struct RightsId(pub u32);
+
+impl RightsId {
+    pub const NONE: RightsId = RightsId(NONE);
+}
 
 // The kinds of site records.
 #[derive(Clone, Copy)]
@@ -151,7 +169,7 @@ pub struct Situation {
 }
 
 // What the rules of a credential say at a point and a time (step 9).
-#[derive(Clone, Copy)]
+#[derive(Clone, Copy, Default)]
 pub struct Verdict {
     pub negative_fits: bool,
     pub positive_fits: bool,

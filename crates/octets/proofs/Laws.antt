@@ -4,14 +4,13 @@ use mathlib.Core.Logic.{◌↔◌}
 use mathlib.Core.List.{List, [], ◌∷◌, ◌++◌, append_assoc}
 use mathlib.Core.Bool.{Bool, true, false, ◌&&◌}
 use Prim.Native.Nat.{ℕ, zero, suc, ◌+◌, ◌-◌, ◌*◌, ◌/◌, ◌%◌, ◌^◌, ◌≤◌, ◌<◌}
-use native.Mathlib.Nat.{le_refl, add-zero, add-suc, zero-add, suc-add, add_assoc, mul_comm, mul_assoc, pow-suc, pow-succ', div-one, div-div-eq-div-mul, div-add-mod', div-lt_iff_lt-mul, mod-lt, one-le-pow}
+use native.Mathlib.Nat.{le_refl, add-zero, add-suc, zero-add, add_assoc, mul_assoc, pow-suc, pow-succ', div-one, div-add-mod', div-lt_iff_lt-mul, mod-lt, one-le-pow}
 use native.Mathlib.Numerals.{add-one, one-add}
 use native.Mathlib.Omega.{arith}
-use lib.Arith.{digits_div, digits_mod, digits_lt, mod-mul}
+use lib.Arith.{digits_div, digits_mod, digits_lt}
 use lib.Dec.{lit<, eqb}
-use lib.ListN.{length, take, drop, get_or, set, length-append, length-take, length-drop, drop_of_length-le}
-use lib.Pow.{pow-add}
-use lib.Seq.{length-take-le, drop-drop, take_at, take-take, take-append-le, drop-append-add, set_split, drop-cons, get_or_at, get_or-take, get_or-drop}
+use lib.ListN.{length, take, drop, get_or, set, length-append, length-take, length-drop}
+use lib.Seq.{length-take-le, drop-drop, take-take, take-append-le, drop-append-add, set_split, drop-cons, get_or_at, get_or-take, get_or-drop}
 use borrow.Author.Tests.{eq-eqb, eqb-true}
 use lib.Pointwise.{pointwise}
 use Rattle.octets.specs.Octets.{field, digits, put, same}
@@ -71,19 +70,6 @@ pub length_digits : (w v : ℕ) → length (digits w v) ≡ w
 unfolding digits
 length_digits zero v = refl
 length_digits (suc w) v = ap suc (length_digits w (v % 256 ^ w))
-
--- The m + n bytes of a number are the m bytes of what stands above the low n, and then the low n. The first byte is not cut, so m is not 0.
-pub digits_join : (m n v : ℕ) → digits (suc m + n) v ≡ digits (suc m) (v / 256 ^ n) ++ digits n (v % 256 ^ n)
-unfolding digits
-digits_join zero n v = rw (one-add n, div-one (v / 256 ^ n))
-digits_join (suc m) n v =
-    let k = 256 ^ n in
-    let q = 256 ^ suc m in
-    let a : 256 ^ (suc m + n) ≡ q * k = pow-add 256 (suc m) n in
-    let f : v / (q * k) ≡ v / k / q = rw (mul_comm q k) (sym (div-div-eq-div-mul v k q)) in
-    let u : v % (q * k) ≡ (v / k % q) * k + v % k = mod-mul v (pos (suc m)) (pos n) in
-    let l : v % k < k = mod-lt v (pos n) in
-    rw (suc-add (suc m) n, digits_join m n (v % 256 ^ (suc m + n)), a, u, digits_div (v / k % q) l, digits_mod (v / k % q) l, f)
 
 -- What was written is read back, whatever stands before it and after it.
 pub field_digits : (at w v : ℕ) (xs ys : List ℕ) → length xs ≡ at → field at (suc w) (xs ++ (digits (suc w) v ++ ys)) ≡ v
@@ -161,36 +147,12 @@ get_put_after at w v at' w' s h d =
     let q : field 0 w' (take w' (drop at' s)) ≡ field at' w' s = rw (add-zero at') at (field_part 0 w' at' w' s (omega arith)) in
     sym p ∙ rw (drop_put at w v at' s h d) q
 
--- A number of m + n bytes is put as its high m bytes and its low n. The first byte is not cut, so m is not 0.
-pub put_join : (m n at v : ℕ) (s : List ℕ) → at + (suc m + n) ≤ length s
-    → put (at + suc m) n (v % 256 ^ n) (put at (suc m) (v / 256 ^ n) s) ≡ put at (suc m + n) v s
-unfolding put
-put_join m n at v s h =
-    let d = digits (suc m) (v / 256 ^ n) in
-    let l : length (take at s ++ d) ≡ at + suc m = simp (length-append, length_digits, length-take) (omega arith) in
-    let t : take (at + suc m) (take at s ++ (d ++ drop (at + suc m) s)) ≡ take at s ++ d = rw (← append_assoc (take at s) d (drop (at + suc m) s)) (take_at (take at s ++ d) (drop (at + suc m) s) (at + suc m) l) in
-    let p : drop (at + suc m + n) (take at s ++ (d ++ drop (at + suc m) s)) ≡ drop (at + (suc m + n)) s = drop_put at (suc m) (v / 256 ^ n) (at + suc m + n) s (omega arith) (omega arith) ∙ rw add_assoc in
-    rw (t, p, digits_join m n v) (simp append_assoc)
-
 -- A number of one byte is put by a store.
 pub put_one : (at v : ℕ) (s : List ℕ) → at + 1 ≤ length s → set s at v ≡ put at 1 v s
 unfolding put digits
 put_one at v s h =
     let l : at < length s = omega arith in
     rw (div-one v, add-one at) (set_split s at v l)
-
--- The w elements from `at` on, one by one: what code that reads byte by byte makes.
-unfoldable pub elems : ℕ → ℕ → List ℕ → List ℕ
-elems zero at s = []
-elems (suc w) at s = get_or s at 0 ∷ elems w (suc at) s
-
--- A part, element by element.
-pub window : (w at : ℕ) (s : List ℕ) → at + w ≤ length s → elems w at s ≡ take w (drop at s)
-unfolding elems
-window zero at s h = refl
-window (suc w) at s h =
-    let l : at < length s = omega arith in
-    rw (drop-cons s at 0 l, window w (suc at) s (omega arith))
 
 -- A list is the same as itself.
 pub same_refl : (a : List ℕ) → same a a ≡ true

@@ -1,7 +1,7 @@
 // Numbers of 1, 2, 4 and 8 bytes, big-endian, at an offset of a lent part; groups of one size of a slice; comparison of two runs of bytes.
 #![tactic(auto)]
 
-ghost use Rattle.std.specs.Prelude.{◌≡◌, ℕ, [], ◌+◌, ◌/◌, ◌≤◌, ◌<◌, length, get_or};
+ghost use Rattle.std.specs.Prelude.{◌≡◌, ℕ, [], ◌++◌, ◌+◌, ◌/◌, ◌≤◌, ◌<◌, length, take, drop, get_or};
 ghost use Rattle.octets.specs.Octets.{field, put, groups, with_part, same};
 
 // A number of a fixed width, in big-endian bytes.
@@ -19,32 +19,55 @@ pub trait Number: Copy {
         ensures { part.new ≡ put at width (number self) part.old };
 }
 
+// Writes the bytes from the start on. It stands apart, since what a chunk leaves is known where the chunk is a whole parameter's.
+fn put_first<const N: usize>(part: &mut [u8], bytes: &[u8; N])
+    requires { N ≤ length part.old }
+    ensures { part.new ≡ bytes.now ++ drop N part.old }
+{
+    let Some(first) = part.first_chunk_mut() else {
+        unreachable!()
+    };
+    *first = *bytes;
+}
+
+// Writes the bytes from an offset on.
+fn put_bytes<const N: usize>(part: &mut [u8], at: usize, bytes: &[u8; N])
+    requires { at + N ≤ length part.old }
+    ensures { part.new ≡ take at part.old ++ (bytes.now ++ drop (at + N) part.old) }
+{
+    put_first(&mut part[at..], bytes);
+}
+
 impl Number for u8 {
     ghost width = { 1 };
 
     ghost number = { λ n. n };
 
+    #[tactic(auto, unfolding(crate::specs::Octets::field))]
     fn get(part: &[u8], at: usize) -> u8 {
         part[at]
     }
 
+    #[tactic(auto, using(crate::proofs::Laws::put_one))]
     fn put(self, part: &mut [u8], at: usize) {
         part[at] = self;
     }
 }
 
+// The bytes of a wider number are read one by one: the length of a chunk would be tested at each read.
 impl Number for u16 {
     ghost width = { 2 };
 
     ghost number = { λ n. n };
 
+    #[tactic(auto, unfolding(crate::specs::Octets::field))]
     fn get(part: &[u8], at: usize) -> u16 {
-        u16::from(u8::get(part, at)) * 256 + u16::from(u8::get(part, at + 1))
+        u16::from_be_bytes([part[at], part[at + 1]])
     }
 
+    #[tactic(auto, unfolding(crate::specs::Octets::put, crate::specs::Octets::digits))]
     fn put(self, part: &mut [u8], at: usize) {
-        ((self / 256) as u8).put(part, at);
-        ((self % 256) as u8).put(part, at + 1);
+        put_bytes(part, at, &u16::to_be_bytes(self));
     }
 }
 
@@ -53,13 +76,14 @@ impl Number for u32 {
 
     ghost number = { λ n. n };
 
+    #[tactic(auto, unfolding(crate::specs::Octets::field))]
     fn get(part: &[u8], at: usize) -> u32 {
-        u32::from(u16::get(part, at)) * 65536 + u32::from(u16::get(part, at + 2))
+        u32::from_be_bytes([part[at], part[at + 1], part[at + 2], part[at + 3]])
     }
 
+    #[tactic(auto, unfolding(crate::specs::Octets::put, crate::specs::Octets::digits))]
     fn put(self, part: &mut [u8], at: usize) {
-        ((self / 65536) as u16).put(part, at);
-        ((self % 65536) as u16).put(part, at + 2);
+        put_bytes(part, at, &u32::to_be_bytes(self));
     }
 }
 
@@ -68,17 +92,28 @@ impl Number for u64 {
 
     ghost number = { λ n. n };
 
+    #[tactic(auto, unfolding(crate::specs::Octets::field))]
     fn get(part: &[u8], at: usize) -> u64 {
-        u64::from(u32::get(part, at)) * 4294967296 + u64::from(u32::get(part, at + 4))
+        u64::from_be_bytes([
+            part[at],
+            part[at + 1],
+            part[at + 2],
+            part[at + 3],
+            part[at + 4],
+            part[at + 5],
+            part[at + 6],
+            part[at + 7],
+        ])
     }
 
+    #[tactic(auto, unfolding(crate::specs::Octets::put, crate::specs::Octets::digits))]
     fn put(self, part: &mut [u8], at: usize) {
-        ((self / 4294967296) as u32).put(part, at);
-        ((self % 4294967296) as u32).put(part, at + 4);
+        put_bytes(part, at, &u64::to_be_bytes(self));
     }
 }
 
 // The whole groups of N bytes that the slice has.
+#[tactic(auto, using(crate::proofs::GroupLaws::chunks_groups))]
 pub fn groups<const N: usize>(bytes: &[u8]) -> &[[u8; N]]
     requires { 0 < N }
     ensures { result.now ≡ groups N (length bytes.now / N) bytes.now }
@@ -105,17 +140,17 @@ pub fn group<const N: usize>(bytes: &[u8], i: usize) -> &[u8; N]
 }
 
 // Writes the i-th of them.
+#[tactic(auto, unfolding(crate::specs::Octets::with_part))]
 pub fn put_group<const N: usize>(bytes: &mut [u8], i: usize, part: &[u8; N])
     requires size { 0 < N }
     requires in_range { i < length bytes.old / N }
     ensures { bytes.new ≡ with_part N i part.now bytes.old }
 {
-    let start = i * N;
-    let end = start + N;
-    bytes[start..end].copy_from_slice(part);
+    put_bytes(bytes, i * N, part);
 }
 
 // Whether two runs of bytes are the same.
+#[tactic(auto, using(crate::proofs::Laws::pointwise_same))]
 pub fn same_bytes(a: &[u8], b: &[u8]) -> bool
     ensures { result ≡ same a.now b.now }
 {

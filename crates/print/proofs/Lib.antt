@@ -1,3 +1,2 @@
-pub mod LineEnd
 pub mod Text
 pub mod Buffers

@@ -1,10 +1,10 @@
 -- With room every text fits: the lines of a run that is worked through, since its answers are 16 bytes for an entry, and every number.
 -- What is then written at the head of the text is what `print_into` has, and its length is within the text.
-use Rattle.std.specs.Prelude.{Ok, Err}
 use Prim.Native.Nat.{ℕ, ◌*◌, ◌/◌, ◌≤◌, ◌<◌}
 use native.Mathlib.Omega.{arith}
 use mathlib.Core.Path.{◌≡◌, refl, ap}
 use mathlib.Core.List.{List, ◌++◌}
+use Rattle.std.specs.Prelude.{Some, None, Ok, Err}
 use mathlib.Core.Bool.{Bool, true, false}
 use lib.Dec.{leb, lit<}
 use lib.ListN.{length, drop, length-append}
@@ -14,7 +14,6 @@ use Rattle.model.specs.Print.{answers_text, decimal_line}
 use Rattle.model.proofs.Laws.{and_left, and_right}
 use Rattle.calls.proofs.Laws.{run_lengths}
 use Rattle.print.specs.Print.{has_room, text_of, run_into, PrintResult, print_result, print_into}
-use Rattle.print.specs.declared.Printed.TheVariants.{Written, NoRoom}
 use Rattle.model.specs.declared.Refusal.TheVariants.{SiteLength, SiteField, SiteTwice, SiteMissing, StateLength, StateForm, JournalLength, AnswersLength}
 
 -- Every number has at most two digits.
@@ -44,16 +43,16 @@ module _ (site journal state answers text : List ℕ) where
 
     module _ (n : ℕ) (state' answers' text' : List ℕ) (f : state' ≡ (run_into site journal state answers).state) (g : answers' ≡ (run_into site journal state answers).answers) where
       pub answers_printed : is_worked returned ≡ true → text' ≡ answers_text answers' ++ drop n text → n ≡ length (answers_text answers')
-          → print_result (Written n) state' answers' text' ≡ print_into site journal state answers text
+          → print_result (Some n) state' answers' text' ≡ print_into site journal state answers text
       unfolding print_into text_of
       answers_printed w p q = rw (h, ← e, w, p, q, f, g)
 
       pub number_printed : (k : ℕ) → k ≡ number returned → is_worked returned ≡ false → text' ≡ decimal_line k ++ drop n text → n ≡ length (decimal_line k)
-          → print_result (Written n) state' answers' text' ≡ print_into site journal state answers text
+          → print_result (Some n) state' answers' text' ≡ print_into site journal state answers text
       unfolding print_into text_of
       number_printed k m w p q = rw (h, ← e, w, p, q, f, g, m)
 
-  pub written_fits : (n : ℕ) (state' answers' text' : List ℕ) → print_result (Written n) state' answers' text' ≡ print_into site journal state answers text
+  pub written_fits : (n : ℕ) (state' answers' text' : List ℕ) → print_result (Some n) state' answers' text' ≡ print_into site journal state answers text
       → n ≤ length text'
   unfolding print_into
   written_fits n state' answers' text' e = go (has_room journal text) refl
@@ -61,11 +60,11 @@ module _ (site journal state answers text : List ℕ) where
       go : (w : Bool) → has_room journal text ≡ w → n ≤ length text'
       go true h =
           let xs = text_of (run_into site journal state answers) in
-          let p : Written n ≡ Written (length xs) = ap (λ (r : PrintResult). r.printed) (rw h at e) in
+          let p : Some n ≡ Some (length xs) = ap (λ (r : PrintResult). r.printed) (rw h at e) in
           let m : n ≡ length xs = cc in
           let t : text' ≡ xs ++ drop (length xs) text = ap (λ (r : PrintResult). r.text) (rw h at e) in
           omega (arith, simp length-append at (ap length t))
       go false h =
-          let p : Written n ≡ NoRoom = ap (λ (r : PrintResult). r.printed) (rw h at e) in
+          let p : Some n ≡ None = ap (λ (r : PrintResult). r.printed) (rw h at e) in
           let z : ◌≡◌ {A = ℕ} 0 1 = cc in
           omega arith

@@ -1,10 +1,8 @@
 -- What `print_journal` gives: the text of a journal that is run from fresh, and every lent buffer.
-use Rattle.std.specs.Prelude.{ℕ, ◌*◌, ◌/◌, List, ◌++◌, Bool, ◌&&◌, leb, length, drop, if◌then◌else◌}
+use Rattle.std.specs.Prelude.{ℕ, ◌*◌, ◌/◌, List, ◌++◌, Bool, ◌&&◌, leb, length, drop, if◌then◌else◌, Option, Some, None}
 use Rattle.model.specs.Numbers.{entry_size}
 use Rattle.model.specs.Calls.{number, is_worked, fresh_state, RunResult, run_journal}
 use Rattle.model.specs.Print.{answers_text, decimal_line}
-use Rattle.print.specs.declared.Printed.{Printed}
-use Rattle.print.specs.declared.Printed.TheVariants.{Written, NoRoom}
 
 -- "32 upper-case hexadecimal digits and a line feed".
 abbrev pub line_size : ℕ
@@ -16,13 +14,13 @@ number_size = 3
 
 -- What the call gives: how long the text is, or that there is no room for it, and the later contents of every lent buffer.
 pub record PrintResult : Type 0 where
-  pub printed : Printed
+  pub printed : Option ℕ
   pub state : List ℕ
   pub answers : List ℕ
   pub text : List ℕ
 
 -- The record of its fields.
-abbrev pub print_result : Printed → List ℕ → List ℕ → List ℕ → PrintResult
+abbrev pub print_result : Option ℕ → List ℕ → List ℕ → List ℕ → PrintResult
 print_result printed state answers text = record { printed = printed; state = state; answers = answers; text = text }
 
 -- Room for a line for each whole entry of the journal, and for a number with its line feed.
@@ -41,9 +39,9 @@ run_into site journal state answers = run_journal site (fresh_state site state).
 -- The text of a run at the head of its buffer, the bytes behind it as they were.
 abbrev pub print_run : RunResult → List ℕ → PrintResult
 print_run run text =
-    print_result (Written (length (text_of run))) run.state run.answers (text_of run ++ drop (length (text_of run)) text)
+    print_result (Some (length (text_of run))) run.state run.answers (text_of run ++ drop (length (text_of run)) text)
 
 -- Without room nothing is changed.
 unfoldable pub print_into : List ℕ → List ℕ → List ℕ → List ℕ → List ℕ → PrintResult
 print_into site journal state answers text =
-    if has_room journal text then print_run (run_into site journal state answers) text else print_result NoRoom state answers text
+    if has_room journal text then print_run (run_into site journal state answers) text else print_result None state answers text

@@ -8,18 +8,12 @@ ghost use Rattle.std.specs.Prelude.{◌≡◌};
 ghost use Rattle.model.specs.Calls.{run_result};
 ghost use Rattle.print.specs.Print.{has_room, run_into, print_result, print_into};
 
-use model::Returned;
+use model::Refusal;
 use model::numbers::ENTRY_SIZE;
 use numbers::{LINE_SIZE, NUMBER_SIZE};
 
-// How long the text is, or that its buffer is too short.
-#[derive(Clone, Copy)]
-pub enum Printed {
-    Written(usize),
-    NoRoom,
-}
-
 // Whether there is room for every text that the journal may get.
+#[tactic(auto, unfolding(crate::specs::Print::has_room))]
 fn has_room(journal: &[u8], text: &[u8]) -> bool
     ensures { result ≡ has_room journal.now text.now }
 {
@@ -27,29 +21,30 @@ fn has_room(journal: &[u8], text: &[u8]) -> bool
 }
 
 // Runs a journal from fresh, in the lent state and answers.
-fn run_into(site: &[u8], journal: &[u8], state: &mut [u8], answers: &mut [u8]) -> Returned
+#[tactic(auto, unfolding(crate::specs::Print::run_into))]
+fn run_into(site: &[u8], journal: &[u8], state: &mut [u8], answers: &mut [u8]) -> Result<(), Refusal>
     ensures { run_result result state.new answers.new ≡ run_into site.now journal.now state.old answers.old }
 {
-    view::fresh_state(site, state);
+    let _ = view::fresh_state(site, state);
     view::run_journal(site, state, journal, answers)
 }
 
-// The printed journal, at the head of the text. Without room for it no buffer is changed.
+// The printed journal, at the head of the text. Returns how long it is. Without room for it no buffer is changed.
 pub fn print_journal(
     site: &[u8],
     journal: &[u8],
     state: &mut [u8],
     answers: &mut [u8],
     text: &mut [u8],
-) -> Printed
+) -> Option<usize>
     ensures { print_result result state.new answers.new text.new ≡ print_into site.now journal.now state.old answers.old text.old }
 {
     if !has_room(journal, text) {
-        return Printed::NoRoom;
+        return None;
     }
-    let returned = run_into(site, journal, state, answers);
-    if calls::is_worked(returned) {
-        return Printed::Written(lines::write_answers(answers, text));
+    let outcome = run_into(site, journal, state, answers);
+    if outcome.is_ok() {
+        return Some(lines::write_answers(answers, text));
     }
-    Printed::Written(lines::write_decimal_line(text, calls::number_of(returned)))
+    Some(lines::write_decimal_line(text, calls::number_of(outcome)))
 }

@@ -1,14 +1,14 @@
 // The characters of the text: answers in hexadecimal digits, numbers in decimal, each line with its line feed.
-ghost use Rattle.std.specs.Prelude.{◌≡◌, [], ◌++◌, ◌+◌, ◌*◌, ◌/◌, ◌≤◌, ◌<◌, length, drop, get_or};
+ghost use Rattle.std.specs.Prelude.{◌≡◌, ◌++◌, ◌+◌, ◌*◌, ◌/◌, ◌≤◌, ◌<◌, length, drop};
 ghost use Rattle.model.specs.Numbers.{answer_size};
-ghost use Rattle.model.specs.Lists.{answers_in};
-ghost use Rattle.model.specs.Print.{digit_zero, hex_digit, hex_byte, hex_line, answers_text, decimal_line};
+ghost use Rattle.model.specs.Print.{digit_zero, hex_digit, hex_line, answers_text, decimal_line};
 ghost use Rattle.octets.specs.Octets.{with_part};
 ghost use Rattle.print.specs.Print.{line_size, number_size};
 
 use super::numbers::{DIGIT_ZERO, LETTER_BASE, LINE_DIGITS, LINE_FEED, LINE_SIZE, NUMBER_SIZE};
 use model::numbers::ANSWER_SIZE;
 
+#[tactic(auto, unfolding(model::specs::Print::hex_digit))]
 fn hex_digit(n: u8) -> u8
     requires { n < 16 }
     ensures { result ≡ hex_digit n }
@@ -20,48 +20,27 @@ fn hex_digit(n: u8) -> u8
     }
 }
 
-// A byte as two digits, the high one first.
-fn write_hex_byte(part: &mut [u8], byte: u8)
-    requires { length part.old ≡ 2 }
-    ensures { part.new ≡ hex_byte byte }
+// An answer as 32 digits, the high one of each byte first, and a line feed.
+fn hex_line(answer: &[u8; ANSWER_SIZE]) -> [u8; LINE_SIZE]
+    ensures { result ≡ hex_line answer.now }
 {
-    part[0] = hex_digit(byte / 16);
-    part[1] = hex_digit(byte % 16);
-}
-
-// The i-th byte of a line.
-fn write_hex_at(line: &mut [u8], i: usize, byte: u8)
-    requires { i < length line.old / 2 }
-    ensures { line.new ≡ with_part 2 i (hex_byte byte) line.old }
-{
-    let start = i * 2;
-    let end = start + 2;
-    write_hex_byte(&mut line[start..end], byte);
-}
-
-// An answer as 32 digits and a line feed.
-fn write_hex_line(line: &mut [u8], answer: &[u8])
-    requires { (length line.old ≡ line_size) × (length answer.now ≡ answer_size) }
-    ensures { line.new ≡ hex_line answer.now }
-{
-    let mut i = 0;
-    while i < ANSWER_SIZE {
-        write_hex_at(line, i, answer[i]);
-        i += 1;
+    let mut line = [LINE_FEED; LINE_SIZE];
+    for (i, byte) in answer.iter().enumerate() {
+        line[i * 2] = hex_digit(byte / 16);
+        line[i * 2 + 1] = hex_digit(byte % 16);
     }
-    line[LINE_DIGITS] = LINE_FEED;
+    line
 }
 
-// The k-th line of the text, of the k-th answer.
-fn write_line_at(text: &mut [u8], k: usize, answers: &[u8])
-    requires { (k < length text.old / line_size) × (k < length answers.now / answer_size) }
-    ensures { text.new ≡ with_part line_size k (hex_line (get_or (answers_in answers.now) k [])) text.old }
+// Writes the k-th line of the text.
+#[tactic(auto, using(octets::proofs::Groups::part_back))]
+fn write_line_at(text: &mut [u8], k: usize, line: &[u8; LINE_SIZE])
+    requires { k < length text.old / line_size }
+    ensures { text.new ≡ with_part line_size k line.now text.old }
 {
     let start = k * LINE_SIZE;
     let end = start + LINE_SIZE;
-    let from = k * ANSWER_SIZE;
-    let to = from + ANSWER_SIZE;
-    write_hex_line(&mut text[start..end], &answers[from..to]);
+    text[start..end].copy_from_slice(line);
 }
 
 // A line for each whole answer, in turn, at the head of the text. Returns how long they are.
@@ -70,13 +49,11 @@ pub(super) fn write_answers(answers: &[u8], text: &mut [u8]) -> usize
     ensures text_after { text.new ≡ answers_text answers.now ++ drop result text.old }
     ensures value { result ≡ length (answers_text answers.now) }
 {
-    let n = answers.len() / ANSWER_SIZE;
-    let mut k = 0;
-    while k < n {
-        write_line_at(text, k, answers);
-        k += 1;
+    let (whole, _) = answers.as_chunks::<ANSWER_SIZE>();
+    for (k, answer) in whole.iter().enumerate() {
+        write_line_at(text, k, &hex_line(answer));
     }
-    n * LINE_SIZE
+    whole.len() * LINE_SIZE
 }
 
 fn decimal_digit(n: u32) -> u8

@@ -2,10 +2,10 @@
 // Where an argument is missing, or a file cannot be read, a message goes to standard error, and nothing is printed.
 #![tactic(auto)]
 
+ghost use Rattle.std.specs.Prelude.{IfOk, IfSome};
 ghost use Rattle.io.specs.Counts.{IsPrefixLen};
 
 use model::numbers::{ANSWER_SIZE, ENTRY_SIZE, LARGEST_JOURNAL, LARGEST_SITE};
-use print::Printed;
 use print::numbers::LINE_SIZE;
 use std::env::{Env, FillError};
 use std::fs::File;
@@ -25,18 +25,6 @@ const TEXT_ROOM: usize = JOURNAL_ROOM / ENTRY_SIZE * LINE_SIZE;
 // No longer name is opened.
 const PATH_ROOM: usize = 4096;
 
-// What was read of a file: how many bytes, and whether they are all of it, or all that there is room for.
-#[derive(Clone, Copy)]
-struct Reading {
-    is_read: bool,
-    count: usize,
-}
-
-const UNREAD: Reading = Reading {
-    is_read: false,
-    count: 0,
-};
-
 // A message on standard error. Where it cannot be written, nothing more can be said.
 fn say(rt: &HostRuntime, what: &str) {
     let _ = eprintln!(rt; "{what}");
@@ -47,59 +35,46 @@ fn fail(rt: &HostRuntime, what: &str, error: io::Error) {
     let _ = eprintln!(rt; "{what}: {error}");
 }
 
-// Reads until the file ends or the buffer is full, or says why it cannot.
-fn read_open(rt: &HostRuntime, path: &str, file: &mut File, bytes: &mut [u8]) -> Reading
-    ensures { IsPrefixLen result.count bytes.new }
+// Reads until the file ends or the buffer is full.
+fn read_open(file: &mut File, bytes: &mut [u8]) -> io::Result<usize>
+    ensures { IfOk result (λ n. IsPrefixLen n bytes.new) }
 {
     let mut count = 0;
     while count < bytes.len() {
-        match file.read(&mut bytes[count..]) {
-            Ok(0) => break,
-            Ok(n) => count += n,
-            Err(error) => {
-                fail(rt, path, error);
-                return Reading {
-                    is_read: false,
-                    count,
-                };
-            }
+        match file.read(&mut bytes[count..])? {
+            0 => break,
+            n => count += n,
         }
     }
-    Reading {
-        is_read: true,
-        count,
-    }
+    Ok(count)
 }
 
-// Reads the file of this name, or says why it cannot.
-fn read_path(rt: &HostRuntime, path: &str, bytes: &mut [u8]) -> Reading
-    ensures { IsPrefixLen result.count bytes.new }
+// Reads the file of this name.
+fn read_path(rt: &HostRuntime, path: &str, bytes: &mut [u8]) -> io::Result<usize>
+    ensures { IfOk result (λ n. IsPrefixLen n bytes.new) }
 {
-    match File::open(rt, path) {
-        Ok(mut file) => read_open(rt, path, &mut file, bytes),
-        Err(error) => {
-            fail(rt, path, error);
-            UNREAD
-        }
-    }
+    let mut file = File::open(rt, path)?;
+    read_open(&mut file, bytes)
 }
 
-// Reads the file that argument i names, or says why it cannot.
-fn read_file(rt: &HostRuntime, i: usize, bytes: &mut [u8]) -> Reading
-    ensures { IsPrefixLen result.count bytes.new }
+// Reads the file that argument i names: how many bytes, all of them or all that there is room for. Or says why it cannot.
+fn read_file(rt: &HostRuntime, i: usize, bytes: &mut [u8]) -> Option<usize>
+    ensures { IfSome result (λ n. IsPrefixLen n bytes.new) }
 {
     let mut name = [0u8; PATH_ROOM];
-    match rt.arg(i, &mut name) {
-        Ok(n) => match str::from_utf8(&name[..n]) {
-            Ok(path) => read_path(rt, path, bytes),
-            Err(_) => {
-                say(rt, "file name: not UTF-8");
-                UNREAD
-            }
-        },
-        Err(_) => {
-            say(rt, "file name: too long");
-            UNREAD
+    let Ok(n) = rt.arg(i, &mut name) else {
+        say(rt, "file name: too long");
+        return None;
+    };
+    let Ok(path) = str::from_utf8(&name[..n]) else {
+        say(rt, "file name: not UTF-8");
+        return None;
+    };
+    match read_path(rt, path, bytes) {
+        Ok(count) => Some(count),
+        Err(error) => {
+            fail(rt, path, error);
+            None
         }
     }
 }
@@ -118,7 +93,7 @@ fn print_bytes(
     answers: &mut [u8],
     text: &mut [u8],
 ) {
-    let Printed::Written(length) = print::print_journal(site, journal, state, answers, text) else {
+    let Some(length) = print::print_journal(site, journal, state, answers, text) else {
         say(rt, "print_journal: no room for the text");
         return;
     };
@@ -133,20 +108,16 @@ fn main(rt: HostRuntime) {
         return;
     }
     let mut site = [0u8; SITE_ROOM];
-    let site_file = read_file(&rt, 1, &mut site);
-    if !site_file.is_read {
+    let Some(n) = read_file(&rt, 1, &mut site) else {
         return;
-    }
+    };
     let mut journal = [0u8; JOURNAL_ROOM];
-    let journal_file = read_file(&rt, 2, &mut journal);
-    if !journal_file.is_read {
+    let Some(m) = read_file(&rt, 2, &mut journal) else {
         return;
-    }
+    };
     let mut state = [0u8; SITE_ROOM];
     let mut answers = [0u8; ANSWERS_ROOM];
     let mut text = [0u8; TEXT_ROOM];
-    let n = site_file.count;
-    let m = journal_file.count;
     let k = m / ENTRY_SIZE * ANSWER_SIZE;
     print_bytes(
         &rt,

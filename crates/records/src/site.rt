@@ -8,7 +8,7 @@ ghost use Rattle.model.specs.Site.{zone_of, point_of, credential_of};
 use super::fields::{flag_of, number_at, reference_at};
 use super::{FromRecord, Record};
 use model::numbers::{
-    ACCESS_CREDENTIAL, ACCESS_POINT, ACCESS_RULE, ACCESS_ZONE, AUTHENTICATION_FACTOR, NONE,
+    ACCESS_CREDENTIAL, ACCESS_POINT, ACCESS_RULE, ACCESS_ZONE, AUTHENTICATION_FACTOR,
 };
 use model::{Credential, Point, RecordKind, RightsId, Zone, ZoneId, layout};
 
@@ -143,8 +143,8 @@ impl FromRecord for Point {
             muster: false,
             mode: 0,
             factors_wanted: 0,
-            zone_to: ZoneId(NONE),
-            zone_from: ZoneId(NONE),
+            zone_to: ZoneId::NONE,
+            zone_from: ZoneId::NONE,
             threat_level: 0,
             most_failures: 0,
             factor_timeout: 0,
@@ -211,8 +211,8 @@ impl FromRecord for Credential {
             expiry: 0,
             absentee_days: 0,
             most_wrong_tries: 0,
-            first_rights: RightsId(NONE),
-            second_rights: RightsId(NONE),
+            first_rights: RightsId::NONE,
+            second_rights: RightsId::NONE,
         }
     }
 }

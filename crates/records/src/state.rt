@@ -7,7 +7,7 @@ ghost use Rattle.model.specs.State.{zone_bytes, point_state_of, point_bytes, cre
 
 use super::fields::{number_at, reference_at};
 use super::{FromRecord, Record, ToRecord};
-use model::numbers::{NEVER, NONE, RECORD_SIZE};
+use model::numbers::{NEVER, RECORD_SIZE};
 use model::{CredentialId, CredentialState, PointId, PointState, ZoneId, layout};
 use octets::Number;
 
@@ -104,12 +104,12 @@ impl FromRecord for CredentialState {
             uses: 0,
             days: 0,
             last_use: 0,
-            zone: ZoneId(NONE),
+            zone: ZoneId::NONE,
             entered: 0,
             last_event: 0,
             disable: 0,
             wrong_tries: 0,
-            last_point: PointId(NONE),
+            last_point: PointId::NONE,
             last_grant: 0,
         }
     }
@@ -126,7 +126,7 @@ pub fn fresh_point() -> PointState
         locked: false,
         lock_time: 0,
         first_failure: 0,
-        waiting_credential: CredentialId(NONE),
+        waiting_credential: CredentialId::NONE,
         waiting_since: 0,
     }
 }
@@ -139,12 +139,12 @@ pub fn fresh_credential(uses: u16, days: u16, disable: u8) -> CredentialState
         uses: uses,
         days: days,
         last_use: NEVER,
-        zone: ZoneId(NONE),
+        zone: ZoneId::NONE,
         entered: NEVER,
         last_event: 0,
         disable: disable,
         wrong_tries: 0,
-        last_point: PointId(NONE),
+        last_point: PointId::NONE,
         last_grant: NEVER,
     }
 }

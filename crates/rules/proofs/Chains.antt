@@ -1,9 +1,10 @@
 -- The walk along a chain for the rules of a class: its start, a turn of it, its end; and the scan of all records.
 use Rattle.std.specs.Prelude.{if◌then◌else◌}
+use Rattle.std.specs.List.{fold}
 use Prim.Native.Nat.{ℕ, suc, ◌+◌, ◌/◌, ◌%◌, ◌≤◌, ◌<◌}
-use mathlib.Core.Path.{◌≡◌}
+use mathlib.Core.Path.{◌≡◌, sym, ◌∙◌}
 use mathlib.Core.List.{List, [], ◌∷◌}
-use mathlib.Core.Bool.{Bool, true, false, or_assoc, or-false}
+use mathlib.Core.Bool.{Bool, true, false}
 use native.Mathlib.Omega.{arith}
 use lib.Dec.{eqb}
 use lib.ListN.{length, drop, get_or, length-drop}
@@ -14,12 +15,12 @@ use Rattle.model.specs.Site.{kind}
 use Rattle.model.specs.Checks.{verdict}
 use Rattle.model.specs.declared.Verdict.{Verdict}
 use Rattle.model.proofs.Laws.{and_left, and_right}
-use Rattle.index.specs.Index.{buckets, chain_scale, tags, rule_class_count, class_of_rule, bucket_of, in_class, record_of, next_in, head, link, IndexedFrom}
+use Rattle.index.specs.Index.{chain_scale, tags, class_of_rule, bucket_of, in_class, record_of, ChainFrom}
 use Rattle.index.proofs.Tags.{some_left, none_left}
-use Rattle.index.proofs.Walks.{Chain, left_turn, left_end, onward, head_record, head_chain, link_record, link_chain}
+use Rattle.index.proofs.Walks.{Chain, left_turn, onward, chain_record, chain_at}
 use Rattle.rules.specs.declared.Asked.{Asked}
-use Rattle.rules.specs.Walk.{findings, nothing_found, both, Gains}
-use Rattle.rules.proofs.Verdicts.{both_assoc, both_comm, found_first, found_at}
+use Rattle.rules.specs.Walk.{findings, both, Gains}
+use Rattle.rules.proofs.Verdicts.{both_nothing, both_assoc, both_comm, found_none, found_first, found_at}
 
 -- What is found so far, with what the rules of the class find that are left, and the rest.
 abbrev carried : Asked → ℕ → Verdict → Verdict → ℕ → List (List ℕ) → Verdict
@@ -59,47 +60,41 @@ module _ (a : Asked) (c : ℕ) (ss : List (List ℕ)) where
       go true p = rw (both_assoc v one, ← both_assoc one) (rw (found_first a s later) at p)
       go false p = rw (both_comm v one, both_assoc one, p) (found_at a ss i h)
 
-  module _ (index : List ℕ) (x : IndexedFrom 0 ss index) where
-    pub walk_start : (v : Verdict) {chain : ℕ} → c < rule_class_count → chain ≡ head (c / tags) index → ClassWalk a c ss v v chain
-    walk_start v h e =
-        let l : c / tags < buckets = omega arith in
-        rw e (record {
-          at = head_chain 0 ss index x (c / tags) l;
-          left = λ rest p. rw (head_record 0 ss index x (c / tags) l) (onward (carried a c v rest) (in_class c) (passes v rest) ss bucket_of (c / tags) has 0 p);
-        })
+  -- From the m-th record on the chain of the bucket decides.
+  walk_on : (from v : Verdict) {m chain : ℕ} → m ≤ length ss → ChainFrom (c / tags) m ss chain
+      → ((rest : Verdict) → carried a c from rest 0 ss ≡ findings a ss → carried a c v rest m (drop m ss) ≡ findings a ss) → ClassWalk a c ss from v chain
+  walk_on from v {m} l x e =
+      record {
+        at = chain_at x l;
+        left = λ rest p. rw (chain_record x l) (onward (carried a c v rest) (in_class c) (passes v rest) ss bucket_of (c / tags) has m (e rest p));
+      }
 
-    pub walk_turn : {from u v : Verdict} {chain : ℕ} (next : ℕ) → ClassWalk a c ss from v chain → record_of chain < length ss
-        → u ≡ both v (findings a (get_or ss (record_of chain) [] ∷ [])) → next ≡ link (record_of chain) index → ClassWalk a c ss from u next
-    walk_turn {from} {u} {v} {chain} next y h t e =
-        let i = record_of chain in
-        let b : bucket_of (get_or ss i []) ≡ c / tags = y.at.here h in
-        let r : record_of (link i index) ≡ next_in bucket_of (c / tags) (i + 1) ss = rw b at (link_record 0 ss index x i (omega arith) h) in
-        rw e (record {
-          at = rw b at (link_chain 0 ss index x i (omega arith) h);
-          left = λ rest p. rw r (onward (carried a c u rest) (in_class c) (passes u rest) ss bucket_of (c / tags) has (i + 1) (adds v rest i h t (y.left rest p)));
-        })
+module _ {a : Asked} {c : ℕ} {ss : List (List ℕ)} where
+  pub walk_start : {v : Verdict} {chain : ℕ} → ChainFrom (c / tags) 0 ss chain → ClassWalk a c ss v v chain
+  walk_start {v} x = walk_on a c ss v v (omega arith) x (λ rest p. p)
 
-  -- As long as the chain may hold a rule of the class, a record is left; then none of the class is.
-  module _ {from v : Verdict} {chain : ℕ} (y : ClassWalk a c ss from v chain) where
-    pub walk_goes_on : bit (chain / chain_scale) (c % tags) ≡ true → record_of chain < length ss
-    walk_goes_on e =
-        omega (arith, length-drop (record_of chain) ss, some_left (c / tags) (c % tags) (drop (record_of chain) ss) (rw y.at.tagged at e))
+  module _ {from v : Verdict} {chain : ℕ} (y : ClassWalk a c ss from v chain) {held : Bool} (t : held ≡ bit (chain / chain_scale) (c % tags)) where
+    -- As long as the chain may hold a rule of the class, a record is left; then none of the class is.
+    pub walk_goes_on : {i : ℕ} → held ≡ true → i ≡ record_of chain → i < length ss
+    walk_goes_on h e =
+        omega (arith, length-drop (record_of chain) ss, some_left (c / tags) (c % tags) (drop (record_of chain) ss) (rw (← y.at.tagged) (sym t ∙ h)))
 
-    pub walk_end : bit (chain / chain_scale) (c % tags) ≡ false → Gains a (in_class c) ss from v
+    pub walk_turn : {i next : ℕ} {u : Verdict} → held ≡ true → i ≡ record_of chain → u ≡ both v (findings a (get_or ss i [] ∷ []))
+        → ChainFrom (bucket_of (get_or ss i [])) (i + 1) ss next → ClassWalk a c ss from u next
+    walk_turn {i} {u = u} h e f x =
+        let l : i < length ss = walk_goes_on h e in
+        walk_on a c ss from u (omega arith) (rw (y.at.here (rw e at l)) at (rw e at x)) (λ rest p. adds a c ss v rest (record_of chain) (rw e at l) (rw e at f) (y.left rest p))
+
+    pub walk_end : held ≡ false → Gains a (in_class c) ss from v
     unfolding both verdict
-    walk_end e rest p = rw (none_left c (drop (record_of chain) ss) (rw y.at.tagged at e)) at (y.left rest p)
+    walk_end h rest p = rw (none_left c (drop (record_of chain) ss) (rw (← y.at.tagged) (sym t ∙ h))) at (y.left rest p)
 
 -- The same of all records, one by one.
-module _ (a : Asked) (ss : List (List ℕ)) where
-  pub scan_start : {v : Verdict} → v ≡ nothing_found → both v (findings a (drop 0 ss)) ≡ findings a ss
-  unfolding both
-  scan_start e = rw e
+scan_on : (a : Asked) (v : Verdict) (ss : List (List ℕ)) → fold (λ w s. both w (findings a (s ∷ []))) v ss ≡ both v (findings a ss)
+scan_on a v [] = sym (found_none a v)
+scan_on a v (s ∷ ss) =
+    rw (found_first a s ss, ← both_assoc v (findings a (s ∷ [])) (findings a ss)) (scan_on a (both v (findings a (s ∷ []))) ss)
 
-  pub scan_turn : (v : Verdict) (i : ℕ) {u : Verdict} → i < length ss → u ≡ both v (findings a (get_or ss i [] ∷ []))
-      → both u (findings a (drop (i + 1) ss)) ≡ both v (findings a (drop i ss))
-  unfolding both verdict
-  scan_turn v i h t = rw (t, left_turn ss i h) (simp (or-false, or_assoc))
-
-  pub scan_end : (v : Verdict) (i : ℕ) → length ss ≤ i → both v (findings a (drop i ss)) ≡ v
-  unfolding both verdict
-  scan_end v i h = rw (left_end ss i h) (simp or-false)
+pub scan_finds : (a : Asked) (ss : List (List ℕ)) {v r : Verdict} → (v.negative_fits ≡ false) × ((v.positive_fits ≡ false) × (v.positive_located ≡ false))
+    → r ≡ fold (λ w s. both w (findings a (s ∷ []))) v ss → r ≡ findings a ss
+scan_finds a ss {v} e f = f ∙ scan_on a v ss ∙ both_nothing e (findings a ss)

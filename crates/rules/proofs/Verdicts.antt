@@ -29,7 +29,16 @@ both_same : (v : Verdict) → both v v ≡ v
 unfolding both
 both_same v = simp or_self
 
--- What the first record finds, and the others.
+-- Where nothing is found yet, nothing is added.
+pub both_nothing : {v : Verdict} → (v.negative_fits ≡ false) × ((v.positive_fits ≡ false) × (v.positive_located ≡ false)) → (w : Verdict) → both v w ≡ w
+unfolding both
+both_nothing e w = rw (e.0, e.1.0, e.1.1)
+
+-- What no record finds, what the first finds, and the others.
+pub found_none : (a : Asked) (v : Verdict) → both v (findings a []) ≡ v
+unfolding both verdict
+found_none a v = simp or-false
+
 pub found_first : (a : Asked) (s : List ℕ) (ss : List (List ℕ)) → findings a (s ∷ ss) ≡ both (findings a (s ∷ [])) (findings a ss)
 unfolding both verdict
 found_first a s ss = simp or-false

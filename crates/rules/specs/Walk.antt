@@ -1,19 +1,15 @@
 -- What the rules are asked, what they find, and the classes that a walk over them goes through.
-use Rattle.std.specs.Prelude.{ℕ, ◌<◌, ◌≡◌, List, [], ◌∷◌, Bool, false, not, ◌&&◌, ◌||◌, eqb, if◌then◌else◌}
+use Rattle.std.specs.Prelude.{ℕ, ◌≡◌, List, [], ◌∷◌, Bool, not, ◌&&◌, ◌||◌, eqb, if◌then◌else◌}
 use Rattle.model.specs.Words.{keep, any}
 use Rattle.model.specs.Numbers.{NONE, access_zone, access_point}
 use Rattle.model.specs.Checks.{verdict}
 use Rattle.model.specs.declared.Verdict.{Verdict}
-use Rattle.index.specs.Index.{rule_class_count, rule_class, in_class}
+use Rattle.index.specs.Index.{rule_class, in_class}
 use Rattle.rules.specs.declared.Asked.{Asked}
 
 -- What the rules among some records find of what is asked.
 abbrev pub findings : Asked → List (List ℕ) → Verdict
 findings a ss = verdict a.first a.second a.point a.to a.time ss
-
--- What no record finds.
-abbrev pub nothing_found : Verdict
-nothing_found = record { negative_fits = false; positive_fits = false; positive_located = false }
 
 -- What a rule finds that fits in location, by its sign and whether its hours fit.
 abbrev pub found : Bool → Bool → Verdict
@@ -47,11 +43,6 @@ rule_classes a =
     ∷ rule_class a.second.0 access_point a.point.0
     ∷ rule_class a.second.0 access_zone a.to.0
     ∷ []
-
--- Each of a list is a class of rules.
-abbrev pub Classes : List ℕ → Type 0
-Classes [] = Unit
-Classes (c ∷ cs) = (c < rule_class_count) × Classes cs
 
 -- How many of them are walked: those of the second rights number are not where it is the first again, or NONE.
 unfoldable pub class_count : Asked → ℕ

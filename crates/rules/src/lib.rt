@@ -1,20 +1,22 @@
 // Step 9 of the order of checks: what the enabled rules of a credential's rights say at a point and a time.
-// Rules are found by the index of the site. A rule is its record, a 32-byte part of the lent site, and each field is read out of it where it is asked
-// and not before.
+// Rules are found by the index of the site. A rule is its record, a part of the lent site, and each field is read out of it where it is asked and not
+// before.
 #![tactic(auto)]
 
-ghost use Rattle.std.specs.Prelude.{◌≡◌, [], ◌∷◌, true, ◌≤◌, ◌<◌, length};
+ghost use Rattle.std.specs.Prelude.{◌≡◌, [], ◌∷◌, ◌≤◌, ◌<◌, All, IfSome};
 ghost use Rattle.model.specs.Site.{records, negative};
 ghost use Rattle.model.specs.Checks.{enabled_rule, location_fits, weekday, weekday_before, minute_of_day, fits_within_day, fits_past_midnight, time_fits};
-ghost use Rattle.index.specs.Index.{rule_class_count, in_class, Indexed};
-ghost use Rattle.rules.specs.Walk.{nothing_found, found, both, findings, Gains, rule_classes, Classes, class_count};
+ghost use Rattle.index.specs.Index.{rule_class_count, in_class};
+ghost use Rattle.rules.specs.Walk.{found, both, findings, Gains, rule_classes, class_count};
 
+use index::IndexedSite;
 use model::layout::{RULE_DAY_MONDAY, RULE_DAY_SUNDAY};
 use model::numbers::{
     ACCESS_POINT, ACCESS_RULE, ACCESS_ZONE, DAYS_OF_WEEK, MINUTES_OF_DAY, NONE, SECONDS_OF_DAY,
     SECONDS_OF_MINUTE,
 };
 use model::{PointId, RightsId, Verdict, ZoneId};
+use records::Record;
 use records::fields::bit_of;
 use records::site::{
     from_minute_of, instance_of, is_always, is_enabled, is_everywhere, is_negative, kind_of,
@@ -39,14 +41,8 @@ pub struct Asked {
     pub time: u32,
 }
 
-// What a walk along a chain found, and whether it came to the chain's end.
-#[derive(Clone, Copy)]
-pub struct Walked {
-    pub verdict: Verdict,
-    pub ended: bool,
-}
-
 // The day of the week of a time, 0 for Monday.
+#[tactic(auto, unfolding(model::specs::Checks::weekday))]
 pub fn weekday_of(time: u32) -> u8
     ensures value { result ≡ weekday time }
     ensures upper_bound { result < 7 }
@@ -55,6 +51,7 @@ pub fn weekday_of(time: u32) -> u8
 }
 
 // The day of the week before a day of the week: Sunday before Monday.
+#[tactic(auto, unfolding(model::specs::Checks::weekday_before))]
 pub fn weekday_before(day: u8) -> u8
     ensures value { result ≡ weekday_before day }
     ensures upper_bound { day < 7 → result < 7 }
@@ -65,6 +62,7 @@ pub fn weekday_before(day: u8) -> u8
     day - 1
 }
 
+#[tactic(auto, unfolding(model::specs::Checks::minute_of_day))]
 pub fn minute_of_day(time: u32) -> u16
     ensures { result ≡ minute_of_day time }
 {
@@ -72,8 +70,8 @@ pub fn minute_of_day(time: u32) -> u16
 }
 
 // Whether a record is an enabled rule of either rights number. Records of another kind or number are passed over first; NONE is no rule's.
-pub fn is_enabled_rule(part: &[u8], first: RightsId, second: RightsId) -> bool
-    requires { length part.now ≡ 32 }
+#[tactic(auto, unfolding(model::specs::Checks::enabled_rule))]
+pub fn is_enabled_rule(part: &Record, first: RightsId, second: RightsId) -> bool
     ensures { result ≡ enabled_rule first second part.now }
 {
     if kind_of(part) != ACCESS_RULE {
@@ -87,26 +85,23 @@ pub fn is_enabled_rule(part: &[u8], first: RightsId, second: RightsId) -> bool
 }
 
 // Whether a rule holds at a point with a Zone_To. The location is read only where its kind can fit.
-pub fn location_fits(part: &[u8], point: PointId, to: ZoneId) -> bool
-    requires { length part.now ≡ 32 }
+#[tactic(auto, unfolding(model::specs::Checks::location_fits))]
+pub fn location_fits(part: &Record, point: PointId, to: ZoneId) -> bool
     ensures { result ≡ location_fits point to part.now }
 {
     if is_everywhere(part) {
         return true;
     }
-    let kind = location_kind_of(part);
-    if kind == ACCESS_POINT {
-        return location_of(part) == point.0;
+    match location_kind_of(part) {
+        ACCESS_POINT => location_of(part) == point.0,
+        ACCESS_ZONE => (to.0 != NONE) && (location_of(part) == to.0),
+        _ => false,
     }
-    if (kind != ACCESS_ZONE) | (to.0 == NONE) {
-        return false;
-    }
-    location_of(part) == to.0
 }
 
 // Whether a time is in the window of a rule that ends on the day on which it began.
-fn fits_within_day(part: &[u8], time: u32) -> bool
-    requires { length part.now ≡ 32 }
+#[tactic(auto, unfolding(model::specs::Checks::fits_within_day))]
+fn fits_within_day(part: &Record, time: u32) -> bool
     ensures { result ≡ fits_within_day time part.now }
 {
     let today = bit_of(weekdays_of(part), weekday_of(time));
@@ -115,8 +110,8 @@ fn fits_within_day(part: &[u8], time: u32) -> bool
 }
 
 // Whether a time is in the window of a rule that ends on the day after: in its first half, or in the second half of the day before's.
-fn fits_past_midnight(part: &[u8], time: u32) -> bool
-    requires { length part.now ≡ 32 }
+#[tactic(auto, unfolding(model::specs::Checks::fits_past_midnight))]
+fn fits_past_midnight(part: &Record, time: u32) -> bool
     ensures { result ≡ fits_past_midnight time part.now }
 {
     let days = weekdays_of(part);
@@ -128,8 +123,8 @@ fn fits_past_midnight(part: &[u8], time: u32) -> bool
 }
 
 // Whether a rule holds at a time.
-pub fn time_fits(part: &[u8], time: u32) -> bool
-    requires { length part.now ≡ 32 }
+#[tactic(auto, unfolding(model::specs::Checks::time_fits, model::specs::Checks::crosses_midnight))]
+pub fn time_fits(part: &Record, time: u32) -> bool
     ensures { result ≡ time_fits time part.now }
 {
     if is_always(part) {
@@ -141,36 +136,30 @@ pub fn time_fits(part: &[u8], time: u32) -> bool
     fits_within_day(part, time)
 }
 
-fn nothing() -> Verdict
-    ensures { result ≡ nothing_found }
-{
-    Verdict {
-        negative_fits: false,
-        positive_fits: false,
-        positive_located: false,
-    }
-}
-
 // What is found so far, with what a rule of the rights adds to it that fits in location. Its hours are read only where they can change what is found.
-fn with_located(v: Verdict, part: &[u8], time: u32) -> Verdict
-    requires { length part.now ≡ 32 }
+#[tactic(auto, unfolding(crate::specs::Walk::both))]
+fn with_located(v: Verdict, part: &Record, time: u32) -> Verdict
     ensures { result ≡ both v (found (negative part.now) (time_fits time part.now)) }
 {
     let negative = is_negative(part);
-    let mut w = v;
-    w.positive_located = v.positive_located | !negative;
+    let located = Verdict {
+        positive_located: v.positive_located | !negative,
+        ..v
+    };
     if (negative & v.negative_fits) | (!negative & v.positive_fits) {
-        return w;
+        return located;
     }
     let timely = time_fits(part, time);
-    w.negative_fits = v.negative_fits | (negative & timely);
-    w.positive_fits = v.positive_fits | (!negative & timely);
-    w
+    Verdict {
+        negative_fits: v.negative_fits | (negative & timely),
+        positive_fits: v.positive_fits | (!negative & timely),
+        ..located
+    }
 }
 
 // What is found so far, with what a record adds to it.
-fn with_record(v: Verdict, part: &[u8], a: Asked) -> Verdict
-    requires { length part.now ≡ 32 }
+#[tactic(auto, unfolding(crate::specs::Walk::both, model::specs::Checks::verdict))]
+fn with_record(v: Verdict, part: &Record, a: Asked) -> Verdict
     ensures { result ≡ both v (findings a (part.now ∷ [])) }
 {
     if !is_enabled_rule(part, a.first, a.second) {
@@ -182,50 +171,42 @@ fn with_record(v: Verdict, part: &[u8], a: Asked) -> Verdict
     with_located(v, part, a.time)
 }
 
-// What is found so far, with what the rules of a class add to it: records of their bucket are read as long as the chain may hold one. A chain that is
-// too long is left.
-fn with_class(site: &[u8], index: &[u16], found: Verdict, class: usize, a: Asked) -> Walked
-    requires { Indexed site.now index.now × (class < rule_class_count) }
-    ensures { result.ended ≡ true → Gains a (in_class class) (records site.now) found result.verdict }
+// What is found so far, with what the rules of a class add to it: records of their bucket are read as long as the chain may hold one. None where the
+// chain is too long.
+#[tactic(auto, using(crate::proofs::Chains::walk_end))]
+fn with_class(site: &IndexedSite, found: Verdict, class: usize, a: Asked) -> Option<Verdict>
+    requires { class < rule_class_count }
+    ensures { IfSome result (Gains a (in_class class) (records site.now) found) }
 {
+    let records = site.records();
     let mut v = found;
-    let mut links = 0;
-    let mut chain = index::head_of(index, class / index::TAGS);
-    while index::may_hold(chain, class) {
-        if links == LONG_CHAIN {
-            return Walked {
-                verdict: v,
-                ended: false,
-            };
+    let mut chain = site.head(class / index::TAGS);
+    for _ in 0..LONG_CHAIN {
+        if !chain.may_hold(class) {
+            return Some(v);
         }
-        let at = index::record_of(chain);
-        v = with_record(v, index::record_at(site, at), a);
-        chain = index::link_of(index, at);
-        links += 1;
+        let at = chain.record();
+        v = with_record(v, &records[at], a);
+        chain = site.link(at);
     }
-    Walked {
-        verdict: v,
-        ended: true,
+    if chain.may_hold(class) {
+        return None;
     }
+    Some(v)
 }
 
 // What all records find, one by one.
-fn scanned(site: &[u8], a: Asked) -> Verdict
+fn scanned(site: &IndexedSite, a: Asked) -> Verdict
     ensures { result ≡ findings a (records site.now) }
 {
-    let n = index::record_count(site);
-    let mut v = nothing();
-    let mut i = 0;
-    while i < n {
-        v = with_record(v, index::record_at(site, i), a);
-        i += 1;
-    }
-    v
+    site.records()
+        .iter()
+        .fold(Verdict::default(), |v, part| with_record(v, part, a))
 }
 
 // The classes of what is asked, first those of the one rights number: a rule of the rights that fits in location is of one of them.
 fn rule_classes(a: Asked) -> [usize; RULE_CLASSES]
-    ensures { (result ≡ rule_classes a) × Classes result }
+    ensures { (result ≡ rule_classes a) × All (λ c. c < rule_class_count) result }
 {
     [
         index::rule_class(a.first.0, 0, 0),
@@ -238,31 +219,28 @@ fn rule_classes(a: Asked) -> [usize; RULE_CLASSES]
 }
 
 // How many of the classes are walked: where the second rights number is the first again, or NONE, it has no rules of its own.
+#[tactic(auto, unfolding(crate::specs::Walk::class_count))]
 fn class_count(a: Asked) -> usize
     ensures { (result ≡ class_count a) × (result ≤ 6) }
 {
-    if (a.second.0 == a.first.0) | (a.second.0 == NONE) {
+    if (a.second == a.first) | (a.second.0 == NONE) {
         return NUMBER_CLASSES;
     }
     RULE_CLASSES
 }
 
 // What the rules of the site find. Where a chain is too long, all records are read.
-pub fn verdict_of(site: &[u8], index: &[u16], a: Asked) -> Verdict
-    requires { Indexed site.now index.now }
+#[tactic(auto, using(crate::proofs::Rounds::round_start, crate::proofs::Rounds::round_turn, crate::proofs::Rounds::round_end))]
+pub fn verdict_of(site: &IndexedSite, a: Asked) -> Verdict
     ensures { result ≡ findings a (records site.now) }
 {
     let classes = rule_classes(a);
-    let count = class_count(a);
-    let mut v = nothing();
-    let mut k = 0;
-    while k < count {
-        let w = with_class(site, index, v, classes[k], a);
-        if !w.ended {
+    let mut v = Verdict::default();
+    for class in &classes[..class_count(a)] {
+        let Some(more) = with_class(site, v, *class, a) else {
             return scanned(site, a);
-        }
-        v = w.verdict;
-        k += 1;
+        };
+        v = more;
     }
     v
 }

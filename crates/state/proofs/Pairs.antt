@@ -1,24 +1,24 @@
--- The pairs of a panel, by their places.
-use Prim.Native.Nat.{ℕ, zero, suc, ◌/◌, ◌<◌}
+-- The pairs of a panel: the records of the site and those of the state side by side.
+use Rattle.std.specs.List.{zip, list_all}
+use Prim.Native.Nat.{ℕ, zero, suc, ◌/◌}
 use mathlib.Core.Path.{◌≡◌, refl, ap}
-use mathlib.Core.List.{List, []}
-use lib.ListN.{length, get_or, drop}
+use mathlib.Core.List.{List, [], ◌∷◌}
+use mathlib.Core.Bool.{Bool, ◌&&◌}
+use lib.ListN.{length, take, drop}
 use Rattle.octets.specs.Octets.{groups}
-use Rattle.model.specs.State.{paired, panel}
-use Rattle.model.proofs.Flat.{paired_at}
+use Rattle.model.specs.Words.{all}
+use Rattle.model.specs.Site.{records}
+use Rattle.model.specs.State.{Pair, Panel, paired, panel}
 
-length_paired : (n : ℕ) (site state : List ℕ) → length (paired n site state) ≡ n
-unfolding paired
-length_paired zero site state = refl
-length_paired (suc n) site state = ap suc (length_paired n (drop 32 site) (drop 32 state))
+zip_groups : (k : ℕ) (site state : List ℕ) → zip (groups 32 k site) (groups 32 k state) ≡ paired k site state
+unfolding groups paired
+zip_groups zero site state = refl
+zip_groups (suc k) site state = ap (λ ps. (take 32 site, take 32 state) ∷ ps) (zip_groups k (drop 32 site) (drop 32 state))
 
--- A panel has a pair for each site record.
-pub length_panel : (site state : List ℕ) → length (panel site state) ≡ length site / 32
-unfolding panel
-length_panel site state = length_paired (length site / 32) site state
+pub zip_panel : (site state : List ℕ) → length state ≡ length site → zip (records site) (groups 32 (length state / 32) state) ≡ panel site state
+unfolding records panel
+zip_panel site state h = rw h (zip_groups (length site / 32) site state)
 
--- The i-th group of the site with the i-th group of the state is the i-th pair.
-pub pair_at : (site state : List ℕ) (i : ℕ) → length state ≡ length site → i < length site / 32 → {s t : List ℕ}
-    → s ≡ get_or (groups 32 (length site / 32) site) i [] → t ≡ get_or (groups 32 (length state / 32) state) i [] → (s, t) ≡ get_or (panel site state) i ([], [])
-unfolding panel
-pair_at site state i e h p q = rw (paired_at (length site / 32) i site state h, p, q, e)
+pub all_pairs : (q : Pair → Bool) (ps : Panel) → list_all q ps ≡ all q ps
+all_pairs q [] = refl
+all_pairs q (p ∷ ps) = ap (λ c. q p && c) (all_pairs q ps)

@@ -1,8 +1,6 @@
 -- A place as a number for C: the place itself, or the largest number of 64 bits where there is none.
-use Rattle.std.specs.Prelude.{ℕ}
-use Rattle.site.specs.declared.Place.{Place}
-use Rattle.site.specs.declared.Place.TheVariants.{At, Nothing}
+use Rattle.std.specs.Prelude.{ℕ, Option}
+use Rattle.std.specs.Option.{unwrap_or}
 
-abbrev pub place_number : Place → ℕ
-place_number (At i) = i
-place_number Nothing = 18446744073709551615
+abbrev pub place_number : Option ℕ → ℕ
+place_number place = unwrap_or place 18446744073709551615

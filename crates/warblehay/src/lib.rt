@@ -10,7 +10,7 @@ ghost use Rattle.warblehay.specs.Numbered.{numbered_fresh, numbered_run, numbere
 ghost use Rattle.warblehay.specs.PlaceNumber.{place_number};
 
 use model::{CredentialId, PointId, ZoneId};
-use site::Place;
+use site::lookup::place_of;
 
 // The place of a record that is not there.
 pub const NOWHERE: usize = 18446744073709551615;
@@ -48,13 +48,10 @@ pub extern "C" fn warblehay_run_journal(
     calls::number_of(view::run_journal(site, state, journal, answers))
 }
 
-fn place_number(place: Place) -> usize
+fn place_number(place: Option<usize>) -> usize
     ensures { result ≡ place_number place }
 {
-    match place {
-        Place::At(i) => i,
-        Place::Nothing => NOWHERE,
-    }
+    place.unwrap_or(NOWHERE)
 }
 
 // The lookups, on any bytes: the place of the first record of a kind and an instance, 0 for the first of the site.
@@ -62,21 +59,21 @@ fn place_number(place: Place) -> usize
 pub extern "C" fn warblehay_place_of_zone(site: &[u8], zone: u32) -> usize
     ensures { result ≡ place_number (place_of access_zone zone site.now) }
 {
-    place_number(site::lookup::place_of_zone(site, ZoneId(zone)))
+    place_number(place_of(site, ZoneId(zone)))
 }
 
 #[unsafe(no_mangle)]
 pub extern "C" fn warblehay_place_of_point(site: &[u8], point: u32) -> usize
     ensures { result ≡ place_number (place_of access_point point site.now) }
 {
-    place_number(site::lookup::place_of_point(site, PointId(point)))
+    place_number(place_of(site, PointId(point)))
 }
 
 #[unsafe(no_mangle)]
 pub extern "C" fn warblehay_place_of_credential(site: &[u8], credential: u32) -> usize
     ensures { result ≡ place_number (place_of access_credential credential site.now) }
 {
-    place_number(site::lookup::place_of_credential(site, CredentialId(credential)))
+    place_number(place_of(site, CredentialId(credential)))
 }
 
 // Raw 26-bit readers: the factor of the bits, or format and value as they were where nothing is made.

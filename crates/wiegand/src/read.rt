@@ -15,6 +15,7 @@ pub fn number_of(reading: Result<Factor, NotTwentySixBits>) -> u32
     }
 }
 
+#[tactic(auto, unfolding(crate::specs::Wiegand::reading_error))]
 fn reading_error() -> Factor
     ensures { result ≡ reading_error }
 {
@@ -48,12 +49,14 @@ fn has_last_parity(number: u32) -> bool
     (number % 8192).count_ones() % 2 != 0
 }
 
+#[tactic(auto, using(crate::proofs::Fields::facility_number))]
 fn facility_of(number: u32) -> u8
     ensures { result ≡ facility_of (bits 26 number) }
 {
     (number / 131072 % 256) as u8
 }
 
+#[tactic(auto, using(crate::proofs::Fields::card_number))]
 fn card_of(number: u32) -> u16
     ensures { result ≡ card_of (bits 26 number) }
 {
@@ -61,6 +64,7 @@ fn card_of(number: u32) -> u16
 }
 
 // The factor of 26 bits.
+#[tactic(auto, unfolding(crate::specs::Wiegand::factor_of))]
 fn factor_of(number: u32) -> Factor
     ensures { result ≡ factor_of (bits 26 number) }
 {

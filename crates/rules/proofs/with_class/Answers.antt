@@ -1,50 +1,25 @@
-use Prim.Native.Nat.{◌<◌}
-use mathlib.Core.Path.{sym, ap, ◌∙◌}
-use mathlib.Core.List.{[], ◌∷◌}
-use mathlib.Core.Bool.{false≢true}
+-- As long as the chain may hold a rule of the class, its first record is one of the site.
+use mathlib.Core.Path.{ap}
 use native.Mathlib.Omega.{arith}
-use lib.ListN.{length, get_or}
-use Rattle.model.specs.Site.{records}
-use Rattle.index.specs.Index.{record_of}
-use Rattle.rules.specs.Walk.{findings, both}
-use Rattle.rules.proofs.Chains.{walk_start, walk_turn, walk_goes_on, walk_end}
+use lib.ListN.{length}
+use Rattle.rules.proofs.Chains.{walk_start, walk_goes_on, walk_turn}
 use Rattle.rules.proofs.with_class.Goals as goal
 
-pub head_of-chain-requires : goal.head_of-chain-requires
-head_of-chain-requires c = (c.requires.0.size, omega (arith, c.requires.1))
+pub loop-init : goal.loop-init
+loop-init c = walk_start c.head-chain.ensures
 
-pub loop-a-init : goal.loop-a-init
-loop-a-init c =
-    let a = c.args in
-    (omega arith, walk_start a.a a.class (records a.site.now) a.index.now c.requires.0 a.found c.requires.1 c.head_of-chain.ensures)
-
-pub returns-then-links-eq-LONG_CHAIN : goal.returns-then-links-eq-LONG_CHAIN
-returns-then-links-eq-LONG_CHAIN c e = absurd (false≢true e)
-
--- In a turn the chain's first record is one of the site.
-pub record_at-requires : goal.record_at-requires
-record_at-requires c =
-    let h : c.record_of-at.result < length (records c.args.site.now) = rw c.record_of-at.ensures (walk_goes_on c.args.a c.args.class (records c.args.site.now) c.loop-a.invariant.1 (sym c.may_hold.ensures ∙ c.loop-a-test.true)) in
-    omega (arith, h)
-
-pub link_of-chain-requires : goal.link_of-chain-requires
-link_of-chain-requires c =
-    let x = c.requires.0 in
-    let h = walk_goes_on c.args.a c.args.class (records c.args.site.now) c.loop-a.invariant.1 (sym c.may_hold.ensures ∙ c.loop-a-test.true) in
-    (x.size, omega (arith, x.few, h, c.record_of-at.ensures))
-
-pub loop-a-preserved : goal.loop-a-preserved
-loop-a-preserved c =
-    let a = c.args in
-    let ss = records a.site.now in
-    let e = c.record_of-at.ensures in
-    let h : record_of c.loop-a.chain < length ss = walk_goes_on c.args.a c.args.class (records c.args.site.now) c.loop-a.invariant.1 (sym c.may_hold.ensures ∙ c.loop-a-test.true) in
-    let t = c.with_record-v.ensures ∙ ap (λ p. both c.loop-a.v (findings a.a (p ∷ []))) (c.record_at.ensures.0 ∙ ap (λ i. get_or ss i []) e) in (
-      omega arith,
-      walk_turn a.a a.class ss a.index.now c.requires.0 c.link_of-chain.result c.loop-a.invariant.1 h t (rw e at c.link_of-chain.ensures),
+pub bounds-records-at : goal.bounds-records-at
+bounds-records-at c =
+    omega (
+      arith,
+      ap length c.records-records.ensures.value,
+      walk_goes_on c.loop.invariant c.may_hold.ensures c.if-not-may_hold.false c.record-at.ensures,
     )
 
-pub returns : goal.returns
-returns c e =
-    let a = c.args in
-    walk_end a.a a.class (records a.site.now) c.loop-a.invariant.1 (sym c.may_hold.ensures ∙ c.loop-a-test.false)
+pub link-chain-requires : goal.link-chain-requires
+link-chain-requires c = walk_goes_on c.loop.invariant c.may_hold.ensures c.if-not-may_hold.false c.record-at.ensures
+
+pub loop-preserved : goal.loop-preserved
+loop-preserved c =
+    let read = rw c.records-records.ensures.value at c.with_record-v.ensures in
+    walk_turn c.loop.invariant c.may_hold.ensures c.if-not-may_hold.false c.record-at.ensures read c.link-chain.ensures

@@ -3,13 +3,9 @@ use native.Mathlib.Omega.{arith}
 use mathlib.Core.Path.{refl, ◌∙◌}
 use mathlib.Core.List.{[], ◌∷◌}
 use borrow.Author.Tests.{lt-ltb, le-ltb}
-use lib.ListN.{length-set}
 use lib.Seq.{sets-eq}
 use Rattle.model.specs.Print.{line_feed, decimal_line}
 use Rattle.print.proofs.lines.write_decimal_line.Goals as goal
-
-pub bounds-text-1 : goal.bounds-text-1
-bounds-text-1 c = simp length-set (omega arith)
 
 pub returns-then-number-lt10 : goal.returns-then-number-lt10
 unfolding decimal_line
@@ -17,9 +13,6 @@ returns-then-number-lt10 c =
     let digit = c.decimal_digit in
     rw (lt-ltb _ _ c.if-number-lt10.true)
     record { text_after = sets-eq (digit.result ∷ line_feed ∷ []) c.args.text.now 0 (omega arith) ∙ rw digit.ensures; value = refl }
-
-pub bounds-text-1-2 : goal.bounds-text-1-2
-bounds-text-1-2 c = simp length-set (omega arith)
 
 pub returns : goal.returns
 unfolding decimal_line

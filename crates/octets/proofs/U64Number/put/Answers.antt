@@ -1,9 +1,0 @@
--- A number of eight bytes is put four bytes at a time.
-use native.Mathlib.Omega.{arith}
-use Rattle.octets.proofs.Laws.{put_join}
-use Rattle.octets.proofs.U64Number.put.Goals as goal
-
-pub returns : goal.returns
-returns c =
-    let a = c.args in
-    rw (c.put-2.ensures, c.put.ensures) (put_join 3 4 a.at a.self a.part.now (omega arith))
