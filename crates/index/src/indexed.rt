@@ -91,8 +91,7 @@ impl<'a> IndexedSite<'a> {
         requires { bucket < buckets }
         ensures { ChainFrom bucket 0 (records self.now) result.0 }
     {
-        let words = self.words;
-        Chain(words[MOST_RECORDS + bucket])
+        Chain(self.words[MOST_RECORDS + bucket])
     }
 
     // What follows the i-th record in the chain of its bucket.
@@ -100,6 +99,7 @@ impl<'a> IndexedSite<'a> {
         requires { i < length (records self.now) }
         ensures { ChainFrom (bucket_of (get_or (records self.now) i [])) (i + 1) (records self.now) result.0 }
     {
+        // By a name of its own, so that where the i-th is computed the invariant is known.
         let words = self.words;
         Chain(words[i])
     }
@@ -108,16 +108,14 @@ impl<'a> IndexedSite<'a> {
     fn first_of_kind(&self, kind: u8) -> usize
         ensures { result ≡ next_in kind_class (kind % kind_classes) 0 (records self.now) }
     {
-        let words = self.words;
-        usize::from(words[MOST_RECORDS + BUCKETS + super::kind_class(kind)])
+        usize::from(self.words[MOST_RECORDS + BUCKETS + super::kind_class(kind)])
     }
 
     // The number after its last, where it has one.
     fn end_of_kind(&self, kind: u8) -> usize
         ensures { next_in kind_class (kind % kind_classes) 0 (records self.now) < length (records self.now) → next_in kind_class (kind % kind_classes) result (records self.now) ≡ length (records self.now) }
     {
-        let words = self.words;
-        usize::from(words[MOST_RECORDS + BUCKETS + KIND_CLASSES + super::kind_class(kind)]) + 1
+        usize::from(self.words[MOST_RECORDS + BUCKETS + KIND_CLASSES + super::kind_class(kind)]) + 1
     }
 
     // The first record of what is sought from a number on, among those of its kind one by one: none comes before the first of its class, and none after

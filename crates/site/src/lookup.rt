@@ -70,16 +70,19 @@ fn is_presented(part: &Record, format: u8, value: [u8; 8]) -> bool
 fn is_identifying(part: &Record, format: u8, value: [u8; 8]) -> bool
     ensures { result ≡ identifying format value part.now }
 {
-    kind_of(part) == AUTHENTICATION_FACTOR
-        && (role_of(part) == ROLE_IDENTIFYING) & is_presented(part, format, value)
+    (kind_of(part) == AUTHENTICATION_FACTOR)
+        & (role_of(part) == ROLE_IDENTIFYING)
+        & is_presented(part, format, value)
 }
 
 #[tactic(auto, unfolding(model::specs::Checks::confirming))]
 fn is_confirming(part: &Record, credential: CredentialId, format: u8, value: [u8; 8]) -> bool
     ensures { result ≡ confirming credential format value part.now }
 {
-    (kind_of(part) == AUTHENTICATION_FACTOR && instance_of(part) == credential.0)
-        && (role_of(part) == ROLE_CONFIRMING) & is_presented(part, format, value)
+    (kind_of(part) == AUTHENTICATION_FACTOR)
+        & (instance_of(part) == credential.0)
+        & (role_of(part) == ROLE_CONFIRMING)
+        & is_presented(part, format, value)
 }
 
 // Whether a factor fits what is presented; the lookup by the index shares it.

@@ -40,7 +40,8 @@ fn are_alike(s: &Record, t: &Record) -> bool
     }
 }
 
-// The kinds are compared first: most pairs differ there.
+// The kinds are compared first: most pairs differ there. A walk along a chain asks it at each link, where a call takes as long as the comparison.
+#[inline(always)]
 #[tactic(auto, unfolding(model::specs::Accept::twins))]
 fn twins(s: &Record, t: &Record) -> bool
     ensures { result ≡ Accept.twins s.now t.now }
@@ -63,6 +64,7 @@ impl<'a> Sought for TwinOf<'a> {
 
     ghost of_kind = { λ s part e. twins_kind s.0.now part e };
 
+    #[inline(always)]
     fn fits(self, part: &Record) -> bool {
         twins(self.0, part)
     }
