@@ -44,10 +44,6 @@ module _ (class : List ℕ → ℕ) where
           record { low = omega (arith, h.low); high = omega (arith, h.high); here = λ l. rw d (h.here (omega (arith, h.low))) }
 
   module _ (c i : ℕ) (ss : List (List ℕ)) where
-    pub next_low : i ≤ next_in class c i ss
-    unfolding next_in
-    next_low = (found c i (drop i ss)).low
-
     pub next_high : i ≤ length ss → next_in class c i ss ≤ length ss
     unfolding next_in
     next_high h = omega (arith, (found c i (drop i ss)).high, length-drop i ss)

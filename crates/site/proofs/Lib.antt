@@ -1,5 +1,4 @@
 pub mod Records
-pub mod RecordKinds
 pub mod Places
 pub mod Panels
 pub mod Values

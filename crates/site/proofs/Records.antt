@@ -1,19 +1,17 @@
 -- The records of a site: what is found of them or is not, what passes, and what a rule in range names.
 use Rattle.std.specs.Prelude.{if◌then◌else◌, cond, Some, None, find}
 use Rattle.std.specs.Option.{unwrap_or}
-use Prim.Native.Nat.{ℕ, zero, suc, ◌+◌, ◌*◌, ◌/◌, ◌≤◌, ◌<◌}
+use Prim.Native.Nat.{ℕ, zero, suc, ◌+◌, ◌<◌}
 use Rattle.std.specs.List.{list_all}
 use mathlib.Core.Path.{◌≡◌, refl, ap}
 use mathlib.Core.List.{List, [], ◌∷◌}
 use mathlib.Core.Bool.{Bool, true, false, ◌&&◌, ◌||◌, and-false}
 use native.Mathlib.Omega.{arith}
 use lib.Dec.{eqb, eqb-suc-zero}
-use lib.ListN.{length, take, drop, get_or, length-drop}
-use lib.Seq.{length-take-le}
-use Rattle.octets.specs.Octets.{groups}
+use lib.ListN.{length, drop, get_or}
 use Rattle.model.specs.Words.{missing, any, all}
 use Rattle.model.specs.Numbers.{access_zone, access_point, access_rule}
-use Rattle.model.specs.Site.{kind, record_kind, instance, everywhere, location_kind, records, find_in}
+use Rattle.model.specs.Site.{kind, record_kind, instance, everywhere, location_kind, find_in}
 use Rattle.model.specs.Accept.{real, rule_in_range, in_range_as, in_range, twins, twice}
 use Rattle.model.specs.declared.RecordKind.TheVariants.{OfRule}
 use Rattle.model.proofs.Laws.{and_left, and_right}
@@ -24,22 +22,6 @@ use Rattle.index.proofs.Walks.{left_turn}
 pub no_bytes : (s : List ℕ) → eqb (length s) 0 ≡ missing s
 no_bytes [] = refl
 no_bytes (x ∷ s) = eqb-suc-zero (length s)
-
--- What is found has 32 bytes.
-whole : (q : List ℕ → Bool) (n : ℕ) (s : List ℕ) → n * 32 ≤ length s → missing (find_in q (groups 32 n s)) ≡ false → length (find_in q (groups 32 n s)) ≡ 32
-unfolding groups
-whole q zero s h m = cc
-whole q (suc n) s h m = go (q (take 32 s)) m (whole q n (drop 32 s) (simp length-drop (omega arith)))
-  where
-    go : (c : Bool) → missing (if c then take 32 s else find_in q (groups 32 n (drop 32 s))) ≡ false →
-        (missing (find_in q (groups 32 n (drop 32 s))) ≡ false → length (find_in q (groups 32 n (drop 32 s))) ≡ 32) →
-        length (if c then take 32 s else find_in q (groups 32 n (drop 32 s))) ≡ 32
-    go true m ih = length-take-le 32 s (omega arith)
-    go false m ih = ih m
-
-pub found_whole : (q : List ℕ → Bool) (site : List ℕ) → missing (find_in q (records site)) ≡ false → length (find_in q (records site)) ≡ 32
-unfolding records
-found_whole q site m = whole q (length site / 32) site (omega arith) m
 
 -- What the library finds.
 module _ (q : List ℕ → Bool) where
@@ -57,7 +39,7 @@ module _ (q : List ℕ → Bool) where
   pub find_none : (ss : List (List ℕ)) → None ≡ find q ss → [] ≡ find_in q ss
   find_none ss e = rw (← e) at (find_is ss)
 
--- Where every record passes, the i-th does; where one does not, not every one does.
+-- Where every record passes, the i-th does.
 module _ (q : List ℕ → Bool) where
   pub all_at : (ss : List (List ℕ)) → all q ss ≡ true → (i : ℕ) (s : List ℕ) → i < length ss → q (get_or ss i s) ≡ true
   all_at [] h i d l = elim l [ ]
@@ -68,11 +50,6 @@ module _ (q : List ℕ → Bool) where
   pub all_is : (ss : List (List ℕ)) → list_all q ss ≡ all q ss
   all_is [] = refl
   all_is (s ∷ ss) = ap (λ c. q s && c) (all_is ss)
-
-  pub all_not : (ss : List (List ℕ)) (i : ℕ) → i < length ss → q (get_or ss i []) ≡ false → all q ss ≡ false
-  all_not [] i l h = elim l [ ]
-  all_not (s ∷ ss) zero l h = rw h
-  all_not (s ∷ ss) (suc i) l h = rw (all_not ss i (omega arith) h) (and-false (q s))
 
 -- The same twice: the record at i with one after it, or two of those after it.
 pub twice_turn : (ss : List (List ℕ)) (i : ℕ) → i < length ss
