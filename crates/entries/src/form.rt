@@ -31,7 +31,7 @@ pub fn operation_of(n: u8) -> Option<Operation>
 fn is_zero(value: [u8; 8]) -> bool
     ensures { result ≡ same value (zeros 8) }
 {
-    value == [0; 8]
+    octets::same_bytes(&value, &[0; 8])
 }
 
 fn no_amount(e: Entry) -> bool

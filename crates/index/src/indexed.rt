@@ -86,6 +86,14 @@ impl<'a> IndexedSite<'a> {
         super::records(self.site)
     }
 
+    // The i-th of them.
+    pub fn record_at(&self, i: usize) -> &'a Record
+        requires { i < length (records self.now) }
+        ensures { result.now ≡ get_or (records self.now) i [] }
+    {
+        super::record_at(self.site, i)
+    }
+
     // The chain of a bucket.
     pub fn head(&self, bucket: usize) -> Chain
         requires { bucket < buckets }

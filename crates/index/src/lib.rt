@@ -75,18 +75,13 @@ pub fn records(site: &[u8]) -> &[Record]
     octets::groups(site)
 }
 
-pub fn record_count(site: &[u8]) -> usize
-    ensures { result ≡ length (records site.now) }
-{
-    records(site).len()
-}
-
 // The i-th record, as a part of the site.
+#[tactic(auto, using(crate::proofs::Building::length_records), unfolding(model::specs::Site::records))]
 pub fn record_at(site: &[u8], i: usize) -> &Record
     requires { i < length (records site.now) }
     ensures { result.now ≡ get_or (records site.now) i [] }
 {
-    &records(site)[i]
+    octets::group(site, i)
 }
 
 fn mixed(a: u32, b: u32, c: u32) -> usize

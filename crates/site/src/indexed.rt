@@ -106,5 +106,5 @@ pub fn find_factor<'a>(site: &IndexedSite<'a>, p: Presented) -> Option<&'a Recor
     ensures { MatchOption result (find_in (fits_presented p) (records site.now) ≡ []) (λ part. part.now ≡ find_in (fits_presented p) (records site.now)) }
 {
     let i = site.first(p)?;
-    Some(&site.records()[i])
+    Some(site.record_at(i))
 }

@@ -46,7 +46,7 @@ fn names_exist(site: &IndexedSite, part: &Record) -> bool
         Some(RecordKind::OfPoint) => zones_exist(site, part),
         Some(RecordKind::OfRule) => location_exists(site, part),
         Some(RecordKind::OfFactor) => exists(site, CredentialId(instance_of(part))),
-        _ => true,
+        Some(RecordKind::OfZone | RecordKind::OfCredential) | None => true,
     }
 }
 

@@ -36,7 +36,9 @@ fn are_alike(s: &Record, t: &Record) -> bool
     match record_kind_of(s) {
         Some(RecordKind::OfRule) => false,
         Some(RecordKind::OfFactor) => twin_factors(s, t),
-        _ => instance_of(s) == instance_of(t),
+        Some(RecordKind::OfZone | RecordKind::OfPoint | RecordKind::OfCredential) | None => {
+            instance_of(s) == instance_of(t)
+        }
     }
 }
 
@@ -79,7 +81,7 @@ fn has_twin_after(site: &IndexedSite, i: usize) -> bool
     requires { i < length (records site.now) }
     ensures { result ≡ any (Accept.twins (get_or (records site.now) i [])) (drop (i + 1) (records site.now)) }
 {
-    let part = &site.records()[i];
+    let part = site.record_at(i);
     kind_of(part) != ACCESS_RULE && site.first_after(TwinOf(part), i).is_some()
 }
 

@@ -1,8 +1,7 @@
 -- The record at its place.
 use Rattle.site.proofs.indexed.find_factor.Goals as goal
-use mathlib.Core.Path.{ap, sym, ◌∙◌}
+use mathlib.Core.Path.{sym, ◌∙◌}
 use native.Mathlib.Omega.{arith}
-use lib.ListN.{length}
 use Rattle.model.specs.Site.{records}
 use Rattle.site.specs.Factor.{fits}
 use Rattle.site.proofs.Places.{found_at, found_nowhere}
@@ -12,17 +11,12 @@ returns-in_err-i c =
     let n = found_nowhere (fits c.args.p) (records c.args.site.now) (sym c.first.ensures ∙ c.in_err-i.was) in
     rw c.from_residual.ensures n
 
-pub offset_bounds-records-i : goal.offset_bounds-records-i
-offset_bounds-records-i c =
+pub record_at-requires : goal.record_at-requires
+record_at-requires c =
     let f = found_at (fits c.args.p) (records c.args.site.now) c.in_ok-i.i (sym c.first.ensures ∙ c.in_ok-i.was) in
     omega (arith, f.0)
-
-pub bounds-records-i : goal.bounds-records-i
-bounds-records-i c =
-    let f = found_at (fits c.args.p) (records c.args.site.now) c.in_ok-i.i (sym c.first.ensures ∙ c.in_ok-i.was) in
-    omega (arith, f.0, ap length c.records.ensures.value)
 
 pub returns : goal.returns
 returns c =
     let f = found_at (fits c.args.p) (records c.args.site.now) c.in_ok-i.i (sym c.first.ensures ∙ c.in_ok-i.was) in
-    rw c.records.ensures.value f.1
+    rw c.record_at.ensures f.1

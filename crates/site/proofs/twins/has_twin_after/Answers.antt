@@ -14,10 +14,10 @@ use Rattle.site.proofs.twins.has_twin_after.Goals as goal
 pub returns-then-kind_of-ne-ACCESS_RULE : goal.returns-then-kind_of-ne-ACCESS_RULE
 returns-then-kind_of-ne-ACCESS_RULE c =
     let ss = records c.args.site.now in
-    c.is_some.ensures ∙ ap is_some (rw c.records.ensures.value at c.first_after.ensures) ∙ place_any (twins (get_or ss c.args.i [])) (c.args.i + 1) (drop (c.args.i + 1) ss)
+    c.is_some.ensures ∙ ap is_some (rw c.record_at-part.ensures at c.first_after.ensures) ∙ place_any (twins (get_or ss c.args.i [])) (c.args.i + 1) (drop (c.args.i + 1) ss)
 
 pub returns-else-kind_of-ne-ACCESS_RULE : goal.returns-else-kind_of-ne-ACCESS_RULE
 returns-else-kind_of-ne-ACCESS_RULE c =
     let ss = records c.args.site.now in
     let k = c.if-kind_of-ne-ACCESS_RULE.false in
-    rw (eq-eqb c.kind_of.result 3 k) (sym (rule_alone (get_or ss c.args.i []) (drop (c.args.i + 1) ss) (rw (c.kind_of.ensures, c.records.ensures.value) at k)))
+    rw (eq-eqb c.kind_of.result 3 k) (sym (rule_alone (get_or ss c.args.i []) (drop (c.args.i + 1) ss) (rw (c.kind_of.ensures, c.record_at-part.ensures) at k)))
