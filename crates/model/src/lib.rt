@@ -232,7 +232,15 @@ pub struct Outcome {
     pub zone_from: Option<Write<ZoneId, u32>>,
 }
 
-// Why a call turns its input back. The number of each is that of document 01; 7 to 9 refuse an entry.
+// Why an entry is refused in its own answer, each by its number of document 01.
+#[derive(Clone, Copy, PartialEq, Eq)]
+pub enum EntryRefusal {
+    Form = 7,
+    NoObject = 8,
+    Count = 9,
+}
+
+// Why a call turns its input back, each by its number of document 01.
 #[derive(Clone, Copy, PartialEq, Eq)]
 pub enum Refusal {
     SiteLength = 1,

@@ -202,10 +202,3 @@ pub const LARGEST_DISABLE: u8 = 3;
 pub const ARGUMENT_UNLOCK: u8 = 0;
 
 pub const ARGUMENT_LOCK: u8 = 1;
-
-// Refusals in an answer.
-pub const REFUSED_FORM: u8 = 7;
-
-pub const REFUSED_NO_OBJECT: u8 = 8;
-
-pub const REFUSED_COUNT: u8 = 9;
