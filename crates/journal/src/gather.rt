@@ -12,7 +12,6 @@ use super::{Gathered, Places};
 use index::IndexedSite;
 use model::numbers::NONE;
 use model::{CredentialId, Entry, Point, PointState, Situation};
-use records::{FromRecord, Record};
 use site::object::Placed;
 use site::{Presented, indexed};
 
@@ -51,26 +50,6 @@ struct Factor {
     disable: Option<u8>,
 }
 
-impl FromRecord for Factor {
-    ghost of_record = { factor_of };
-
-    #[tactic(auto, unfolding(crate::specs::Gather::factor_of))]
-    fn from_record(part: &Record) -> Factor {
-        Factor {
-            credential: CredentialId(records::site::instance_of(part)),
-            disable: Some(records::site::factor_disable_of(part)),
-        }
-    }
-
-    #[tactic(auto, unfolding(crate::specs::Gather::factor_of))]
-    fn missing() -> Factor {
-        Factor {
-            credential: CredentialId::NONE,
-            disable: None,
-        }
-    }
-}
-
 // What is presented at a point that waits for a credential or for nobody.
 #[tactic(auto, using(crate::proofs::Factors::presented_for))]
 fn presented(waiting: CredentialId, e: Entry) -> Presented
@@ -85,12 +64,16 @@ fn presented(waiting: CredentialId, e: Entry) -> Presented
 }
 
 // The factor that was read there.
+#[tactic(auto, unfolding(crate::specs::Gather::factor_of))]
 fn factor_for(site: &IndexedSite, waiting: CredentialId, e: Entry) -> Factor
     ensures { result ≡ factor_of (factor_for waiting e (records site.now)) }
 {
-    match indexed::find_factor(site, presented(waiting, e)) {
-        Some(part) => Factor::from_record(part),
-        None => Factor::missing(),
+    let part = indexed::find_factor(site, presented(waiting, e));
+    Factor {
+        credential: part.map_or(CredentialId::NONE, |part| {
+            CredentialId(records::site::instance_of(part))
+        }),
+        disable: part.map(|part| records::site::factor_disable_of(part)),
     }
 }
 
