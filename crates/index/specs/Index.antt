@@ -4,7 +4,6 @@ use Rattle.std.specs.Int.Bits.{bit_or}
 use Rattle.octets.specs.Octets.{field}
 use Rattle.model.specs.Numbers.{access_rule, authentication_factor, role_identifying}
 use Rattle.model.specs.Site.{kind, instance, everywhere, location_kind, location, role, format, records}
-use Rattle.index.specs.declared.Slot.{Slot}
 
 -- The most records of a site; the buckets; classes of kinds; the numbers of an index: a link for each record, then a head for each bucket, and a head
 -- and a last record for each class of kinds.
@@ -86,13 +85,6 @@ in_class c s = eqb (kind s) access_rule && eqb (class_of_rule s) c
 unfoldable pub mark_of : List ℕ → ℕ
 mark_of s = if eqb (kind s) access_rule then 2 ^ (class_of_rule s % tags) else 0
 
--- Where a record goes: its bucket and its mark, each within its bounds.
-pub record Slotted (s : List ℕ) (slot : Slot) : Type 0 where
-  pub bucket : slot.bucket ≡ bucket_of s
-  pub within : slot.bucket < buckets
-  pub mark : slot.mark ≡ mark_of s
-  pub small : slot.mark < 32
-
 -- The tags of the rules of a bucket.
 unfoldable pub tags_of : ℕ → List (List ℕ) → ℕ
 tags_of b [] = 0
@@ -126,6 +118,10 @@ kind_last c index = get_or index (most_records + buckets + kind_classes + c) 0
 
 abbrev pub link : ℕ → List ℕ → ℕ
 link i index = get_or index i 0
+
+-- The record that a walk for a kind tries after the i-th: the next of its bucket, or the next of the kind.
+abbrev pub after : Bool → ℕ → ℕ → List (List ℕ) → List ℕ → ℕ
+after along k i ss index = if along then record_of (link i index) else next_in kind k (i + 1) ss
 
 -- The numbers of an index of the records from the k-th on: the chain of each bucket, the first and the last record of each class of kinds, and what
 -- follows each record in its bucket's chain. The number of records ends a chain.

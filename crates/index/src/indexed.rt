@@ -2,16 +2,16 @@
 ghost use Rattle.std.specs.Prelude.{◌≡◌, ℕ, List, Bool, true, [], ◌+◌, ◌%◌, ◌≤◌, ◌<◌, length, drop, get_or, position};
 ghost use Rattle.model.specs.Site as Site;
 ghost use Rattle.model.specs.Site.{records};
-ghost use Rattle.index.specs.Index.{most_records, buckets, kind_classes, kind_class, bucket_of, next_in, ChainFrom, Indexed, OfBucket};
+ghost use Rattle.index.specs.Index.{most_records, kind_classes, kind_class, bucket_of, next_in, ChainFrom, Indexed, OfBucket};
 ghost use Rattle.index.specs.Place.{place_from};
 
-use super::{BUCKETS, Chain, KIND_CLASSES, MOST_RECORDS, Words};
+use super::{BUCKETS, Bucket, Chain, KIND_CLASSES, MOST_RECORDS, Words};
 use records::Record;
 use std::marker::Model;
 
 // How many links of a chain are followed at most; from there on the records of the kind are tried one by one. Each link waits for the one before, so
 // that in a site made to fall into one bucket a scan is quicker.
-const LONG_CHAIN: usize = 8;
+pub const LONG_CHAIN: usize = 8;
 
 // What is sought among the records: those that pass a test, all of one bucket and one kind.
 pub trait Sought: Copy {
@@ -34,8 +34,8 @@ pub trait Sought: Copy {
 
 // What is sought from the first record of its bucket on.
 pub trait Keyed: Sought {
-    fn bucket(self) -> usize
-        ensures { (result ≡ Self.bucket self) × (result < buckets) };
+    fn bucket(self) -> Bucket
+        ensures { result ≡ Self.bucket self };
 }
 
 // The place of the first of some records that is sought.
@@ -47,39 +47,37 @@ fn place_among<S: Sought>(records: &[Record], sought: S) -> Option<usize>
 
 // A site whose records are all in its index, seen as its bytes.
 #[derive(Drop)]
-pub struct IndexedSite<'a> {
-    site: &'a [u8],
-    words: &'a Words,
+pub struct IndexedSite<'s, 'w> {
+    site: &'s [u8],
+    words: &'w Words,
 }
 
-impl<'a> Model for IndexedSite<'a> {
-    ghost use Rattle.std.specs.Prelude.{◌≡◌, ℕ, List, ◌%◌, length};
+impl<'s, 'w> Model for IndexedSite<'s, 'w> {
+    ghost use Rattle.std.specs.Prelude.{ℕ, List};
+    ghost use Rattle.index.specs.Index.{Indexed};
 
     ghost Value = { List ℕ };
 
-    ghost use Rattle.index.specs.Index.{Indexed};
-
     ghost view = { λ a. a.site.now };
 
-    ghost invariant = { λ a. Indexed a.site.now a.words.now × (length a.site.now % 32 ≡ 0) };
+    ghost invariant = { λ a. Indexed a.site.now a.words.now };
 }
 
-impl<'a> IndexedSite<'a> {
-    pub fn new(site: &'a [u8], words: &'a Words) -> IndexedSite<'a>
-        requires { Indexed site.now words.now × (length site.now % 32 ≡ 0) }
+impl<'s, 'w> IndexedSite<'s, 'w> {
+    pub fn new(site: &'s [u8], words: &'w Words) -> IndexedSite<'s, 'w>
+        requires { Indexed site.now words.now }
         ensures { result ≡ site.now }
     {
         IndexedSite { site, words }
     }
 
-    pub fn bytes(&self) -> &'a [u8]
-        ensures value { result.now ≡ self.now }
-        ensures whole { length self.now % 32 ≡ 0 }
+    pub fn bytes(&self) -> &'s [u8]
+        ensures { result.now ≡ self.now }
     {
         self.site
     }
 
-    pub fn records(&self) -> &'a [Record]
+    pub fn records(&self) -> &'s [Record]
         ensures value { result.now ≡ records self.now }
         ensures few { length (records self.now) ≤ most_records }
     {
@@ -87,7 +85,7 @@ impl<'a> IndexedSite<'a> {
     }
 
     // The i-th of them.
-    pub fn record_at(&self, i: usize) -> &'a Record
+    pub fn record_at(&self, i: usize) -> &'s Record
         requires { i < length (records self.now) }
         ensures { result.now ≡ get_or (records self.now) i [] }
     {
@@ -95,11 +93,10 @@ impl<'a> IndexedSite<'a> {
     }
 
     // The chain of a bucket.
-    pub fn head(&self, bucket: usize) -> Chain
-        requires { bucket < buckets }
+    pub fn head(&self, bucket: Bucket) -> Chain
         ensures { ChainFrom bucket 0 (records self.now) result.0 }
     {
-        Chain(self.words[MOST_RECORDS + bucket])
+        super::head_of(self.words, bucket)
     }
 
     // What follows the i-th record in the chain of its bucket.
@@ -107,9 +104,7 @@ impl<'a> IndexedSite<'a> {
         requires { i < length (records self.now) }
         ensures { ChainFrom (bucket_of (get_or (records self.now) i [])) (i + 1) (records self.now) result.0 }
     {
-        // By a name of its own, so that where the i-th is computed the invariant is known.
-        let words = self.words;
-        Chain(words[i])
+        super::link_of(self.words, i)
     }
 
     // The first record of a kind's class, or the number of records, where it has none.

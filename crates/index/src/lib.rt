@@ -10,13 +10,17 @@ ghost use Rattle.model.specs.Numbers.{access_rule};
 ghost use Rattle.model.specs.Site as Site;
 ghost use Rattle.model.specs.Site.{records};
 ghost use Rattle.index.specs.Index as Index;
-ghost use Rattle.index.specs.Index.{most_records, buckets, kind_classes, object_bucket, rule_class_count, rule_class, factor_bucket, Slotted, IndexedFrom};
+ghost use Rattle.index.specs.Index.{most_records, kind_classes, object_bucket, rule_class, factor_bucket, IndexedFrom};
+ghost use Rattle.index.specs.Slots.{Slotted};
 
+mod bucket; // bucket.rt: buckets, and the classes of rules
 mod chain; // chain.rt: the records of a bucket from one on
 mod indexed; // indexed.rt: a site with its index, and the first record in it of what is sought
 
+pub use bucket::{Bucket, Class, TAGS};
 pub use chain::Chain;
-pub use indexed::{IndexedSite, Keyed, Sought};
+pub use indexed::{IndexedSite, Keyed, LONG_CHAIN, Sought};
+use bucket::BUCKETS;
 use model::layout::FACTOR_VALUE;
 use model::numbers::{ACCESS_RULE, AUTHENTICATION_FACTOR, MODULUS, ROLE_IDENTIFYING};
 use octets::Number;
@@ -29,19 +33,12 @@ use records::site::{
 // last records come last.
 pub const MOST_RECORDS: usize = 2000;
 
-const BUCKETS: usize = 1024;
-
 const KIND_CLASSES: usize = 8;
 
 pub const INDEX_SIZE: usize = 3040;
 
 // The numbers of an index.
 pub type Words = [u16; INDEX_SIZE];
-
-// The tags, a bit each above the record's number; classes of rules, each of a bucket and a tag.
-pub const TAGS: usize = 4;
-
-const RULE_CLASSES: usize = 4096;
 
 // What an index holds before it is built. Its two bytes differ, since a fill with equal bytes becomes a call of memset.
 pub const UNBUILT: u16 = 2000;
@@ -63,7 +60,7 @@ const CLASS_SCALE: usize = 262144;
 // Where a record goes: its bucket, and the bit of its tag, where it is a rule.
 #[derive(Clone, Copy)]
 pub struct Slot {
-    pub bucket: usize,
+    pub bucket: Bucket,
     pub mark: u16,
 }
 
@@ -91,32 +88,32 @@ fn mixed(a: u32, b: u32, c: u32) -> usize
 }
 
 #[tactic(auto, unfolding(crate::specs::Index::spread))]
-fn spread(a: u32, b: u32, c: u32, turn: u16) -> usize
-    ensures { (result ≡ Index.spread a b c turn) × (result < buckets) }
+fn spread(a: u32, b: u32, c: u32, turn: u16) -> Bucket
+    ensures { result ≡ Index.spread a b c turn }
 {
-    (mixed(a, b, c) / SPREAD_SCALE + (turn as usize) * SPREAD_TURN) % BUCKETS
+    Bucket::of(mixed(a, b, c) / SPREAD_SCALE + (turn as usize) * SPREAD_TURN)
 }
 
 // The bucket of a zone, a point or a credential.
-pub fn object_bucket(kind: u8, instance: u32) -> usize
-    ensures { (result ≡ object_bucket kind instance) × (result < buckets) }
+pub fn object_bucket(kind: u8, instance: u32) -> Bucket
+    ensures { result ≡ object_bucket kind instance }
 {
     spread(instance, 0, 0, u16::from(kind))
 }
 
 // The class of the rules of a rights number at a location; everywhere is location 0 of kind 0.
 #[tactic(auto, unfolding(crate::specs::Index::rule_class))]
-pub fn rule_class(rights: u32, kind: u8, location: u32) -> usize
-    ensures { (result ≡ rule_class rights kind location) × (result < rule_class_count) }
+pub fn rule_class(rights: u32, kind: u8, location: u32) -> Class
+    ensures { result ≡ rule_class rights kind location }
 {
     let turn = usize::from(ACCESS_RULE) * SPREAD_TURN * TAGS;
-    (mixed(rights, location, u32::from(kind)) / CLASS_SCALE + turn) % RULE_CLASSES
+    Class::of(mixed(rights, location, u32::from(kind)) / CLASS_SCALE + turn)
 }
 
 // The bucket of the factors of a format, of the value at an offset and, where they confirm, of a credential.
-fn factor_bucket(format: u8, part: &[u8], at: usize, owner: u32) -> usize
+fn factor_bucket(format: u8, part: &[u8], at: usize, owner: u32) -> Bucket
     requires { at + 8 ≤ length part.now }
-    ensures { (result ≡ factor_bucket format (field at 4 part.now) (field (at + 4) 4 part.now) owner) × (result < buckets) }
+    ensures { result ≡ factor_bucket format (field at 4 part.now) (field (at + 4) 4 part.now) owner }
 {
     let words = u64::get(part, at);
     let turn = u16::from(format) + u16::from(AUTHENTICATION_FACTOR);
@@ -129,8 +126,8 @@ fn factor_bucket(format: u8, part: &[u8], at: usize, owner: u32) -> usize
 }
 
 // The same of a value by itself.
-pub fn value_bucket(format: u8, value: [u8; 8], owner: u32) -> usize
-    ensures { (result ≡ factor_bucket format (field 0 4 value) (field 4 4 value) owner) × (result < buckets) }
+pub fn value_bucket(format: u8, value: [u8; 8], owner: u32) -> Bucket
+    ensures { result ≡ factor_bucket format (field 0 4 value) (field 4 4 value) owner }
 {
     factor_bucket(format, &value, 0, owner)
 }
@@ -146,8 +143,8 @@ fn owner_of(part: &Record) -> u32
 }
 
 #[tactic(auto, unfolding(crate::specs::Index::class_of_rule))]
-fn class_of_rule(part: &Record) -> usize
-    ensures { (result ≡ Index.class_of_rule part.now) × (result < rule_class_count) }
+fn class_of_rule(part: &Record) -> Class
+    ensures { result ≡ Index.class_of_rule part.now }
 {
     let rights = instance_of(part);
     if is_everywhere(part) {
@@ -162,8 +159,8 @@ fn slot_of_rule(part: &Record) -> Slot
 {
     let class = class_of_rule(part);
     Slot {
-        bucket: class / TAGS,
-        mark: (1 as u16) << (class % TAGS),
+        bucket: class.bucket(),
+        mark: (1 as u16) << class.tag(),
     }
 }
 
@@ -186,9 +183,23 @@ fn slot_of_other(part: &Record) -> Slot
 }
 
 fn kind_class(kind: u8) -> usize
-    ensures { (result ≡ kind % kind_classes) × (result < kind_classes) }
+    ensures { result ≡ kind % kind_classes }
 {
     usize::from(kind) % KIND_CLASSES
+}
+
+// The chain of a bucket, and what of it follows the i-th record.
+pub fn head_of(words: &Words, bucket: Bucket) -> Chain
+    ensures { result.0 ≡ Index.head bucket words.now }
+{
+    Chain(words[MOST_RECORDS + bucket.number()])
+}
+
+pub fn link_of(words: &Words, i: usize) -> Chain
+    requires { i < most_records }
+    ensures { result.0 ≡ Index.link i words.now }
+{
+    Chain(words[i])
 }
 
 // An index of no record yet: every bucket ends at once.
@@ -213,7 +224,7 @@ fn put(records: &[Record], words: &mut Words, i: usize, slot: Slot)
     requires i_in_bounds { (i < length records.now) × Slotted (get_or records.now i []) slot }
     ensures { IndexedFrom i records.now words.new }
 {
-    let head = MOST_RECORDS + slot.bucket;
+    let head = MOST_RECORDS + slot.bucket.number();
     let kind_head = MOST_RECORDS + BUCKETS + kind_class(kind_of(&records[i]));
     let kind_last = kind_head + KIND_CLASSES;
     let last = last_after(

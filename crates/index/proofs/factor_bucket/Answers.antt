@@ -16,4 +16,4 @@ returns c =
     let j = field_join 4 4 at p in
     let high : w / 4294967296 ≡ field at 4 p = omega (arith, j, c.get-words.ensures) in
     let low : w % 4294967296 ≡ field (at + 4) 4 p = omega (arith, j, c.get-words.ensures) in
-    (rw (← high, ← low) (rw (c.from.ensures, c.from-2.ensures) at c.spread.ensures.0), c.spread.ensures.1)
+    rw (← high, ← low) (rw (c.from.ensures, c.from-2.ensures) at c.spread.ensures)

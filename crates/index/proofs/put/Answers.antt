@@ -15,8 +15,9 @@ returns c =
     let x = c.args.words.now in
     let o = c.args.slot in
     let q = c.requires.i_in_bounds.1 in
+    let n = c.number-head.ensures in
     let z : most_records + buckets + kind_classes + c.kind_class.result ≡ most_records + buckets + c.kind_class.result + kind_classes = omega arith in
-    let f = c.before-2.ensures ∙ ap (λ w. i + bit_or w (head o.bucket x / chain_scale) * chain_scale) q.mark in
-    inserted i ss x c.requires.i_in_bounds.0 o.bucket q.bucket q.within
-    c.kind_class.result (c.kind_class.ensures.0 ∙ ap (λ w. w % kind_classes) c.kind_of.ensures) c.kind_class.ensures.1 c.requires.indexed_from
+    let f = c.before-2.ensures ∙ ap (λ w. i + bit_or w (head c.number-head.result x / chain_scale) * chain_scale) q.mark in
+    inserted i ss x c.requires.i_in_bounds.0 c.number-head.result (n.0 ∙ q.bucket) n.1
+    c.kind_class.result (c.kind_class.ensures ∙ ap (λ w. w % kind_classes) c.kind_of.ensures) (omega (arith, c.kind_class.ensures)) c.requires.indexed_from
     c.before-2.result.0 f l.result (rw z l.ensures)

@@ -11,7 +11,8 @@ unfolding bucket_of mark_of
 returns c =
     let k = c.requires in
     let r = c.class_of_rule-class in
-    let t = r.result % tags in
+    let t = c.tag.result in
+    let g : t ≡ r.result % tags = c.tag.ensures in
     let l : 2 ^ t < 32 = pow-lt {i = t} {j = 5} (omega arith) in
     let e : 1 * 2 ^ t % 65536 ≡ 2 ^ t = omega arith in
-    record { bucket = rw (k, ← r.ensures.0); within = omega (arith, r.ensures.1); mark = rw (e, k, ← r.ensures.0); small = omega arith }
+    record { bucket = rw (k, ← r.ensures) c.bucket.ensures; mark = rw (e, g, k, ← r.ensures); small = omega arith }

@@ -8,11 +8,11 @@ use Rattle.index.proofs.indexed.IndexedSite.first.Goals as goal
 pub first_from-requires : goal.first_from-requires
 first_from-requires g c =
     let a = c.args in
-    chain_of_bucket (g.S.Sought.fits a.sought) (records a.self.now) (g.met.S.Sought.of_bucket a.sought) (rw c.bucket.ensures.0 at c.head.ensures) (omega arith)
+    chain_of_bucket (g.S.Sought.fits a.sought) (records a.self.now) (g.met.S.Sought.of_bucket a.sought) (rw c.bucket.ensures at c.head.ensures) (omega arith)
     c.record.result c.record.ensures
 
 pub returns : goal.returns
 returns g c =
     let a = c.args in
-    c.first_from.ensures ∙ place_chain (g.S.Sought.fits a.sought) (records a.self.now) (g.met.S.Sought.of_bucket a.sought) (rw c.bucket.ensures.0 at c.head.ensures) (omega arith)
+    c.first_from.ensures ∙ place_chain (g.S.Sought.fits a.sought) (records a.self.now) (g.met.S.Sought.of_bucket a.sought) (rw c.bucket.ensures at c.head.ensures) (omega arith)
     c.record.result c.record.ensures
