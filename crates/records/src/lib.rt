@@ -5,7 +5,7 @@ ghost use Rattle.std.specs.Prelude.{◌≡◌, ◌+◌, ◌≤◌, ℕ, List};
 ghost use Rattle.octets.specs.Octets.{field};
 ghost use Rattle.model.specs.Site.{reference};
 
-pub mod fields; // fields.rt: the numbers at the offsets of a record
+pub mod fields; // fields.rt: the numbers at the offsets of a record, or of none
 pub mod site; // site.rt: the fields of site records
 pub mod state; // state.rt: the fields of state records, fresh ones, and their bytes
 pub mod entry; // entry.rt: entries and answers
