@@ -81,7 +81,7 @@ impl Class {
         }
     }
 
-    pub fn tag(self) -> usize
+    pub(crate) fn tag(self) -> usize
         ensures { result ≡ self % tags }
     {
         self.number % TAGS
