@@ -13,12 +13,12 @@ use native.Mathlib.Omega.{arith}
 use lib.Dec.{ltb}
 use lib.ListN.{length, take, drop, get_or, length-drop}
 use lib.Seq.{drop-drop, length-take-le}
-use Rattle.std.proofs.lemmas.List.{take-append-drop}
+use Rattle.std.proofs.lemmas.List.{drop_all, drop_more, take-append-drop}
 use borrow.Author.Tests.{ltb-true, ltb-false}
 use Rattle.model.specs.Site.{kind}
 use Rattle.index.specs.Index.{kind_classes, bucket_of, record_of, ChainFrom, kind_class, next_in, OfBucket}
 use Rattle.index.specs.Place.{place_from}
-use Rattle.index.proofs.Walks.{left_turn, left_end, next_high, next_here, next_end, next_again, past, onward, chain_record}
+use Rattle.index.proofs.Walks.{next_high, next_end, next_again, past, onward, onward_chain, chain_record, chain_at}
 
 -- From where the last of a class was passed on there is none, nor where there is none at all.
 class_ends : (c last end : ℕ) (ss : List (List ℕ)) → (next_in kind_class c 0 ss < length ss → next_in kind_class c last ss ≡ length ss)
@@ -43,11 +43,11 @@ module _ (q : List ℕ → Bool) where
   -- The record at i passes, or there is none.
   pub place_here : (ss : List (List ℕ)) (i : ℕ) → i < length ss → q (get_or ss i []) ≡ true → place_from q i (drop i ss) ≡ Some i
   unfolding place_from
-  place_here ss i h t = rw (left_turn ss i h, t)
+  place_here ss i h t = rw (drop_more ss i [] h, t)
 
   pub place_end : (ss : List (List ℕ)) (i : ℕ) → length ss ≤ i → place_from q i (drop i ss) ≡ None
   unfolding place_from
-  place_end ss i h = rw (left_end ss i h)
+  place_end ss i h = rw (drop_all i ss h)
 
   -- Where the first record is counted as k, the place is k more.
   place_more : (k j : ℕ) (ss : List (List ℕ)) → place_from q (k + j) ss ≡ option_map (λ i. k + i) (place_from q j ss)
@@ -89,11 +89,10 @@ module _ (q : List ℕ → Bool) where
     -- Only records of a bucket pass: the first record of its chain from the m-th on decides.
     module _ {b m chain : ℕ} (has : (s : List ℕ) → q s ≡ true → bucket_of s ≡ b) (x : ChainFrom b m ss chain) (l : m ≤ length ss) (j : ℕ) (r : j ≡ record_of chain) where
       pub chain_of_bucket : OfBucket b j ss
-      chain_of_bucket =
-          rw (r ∙ chain_record x l) (record { high = next_high bucket_of b m ss l; here = next_here bucket_of b m ss })
+      chain_of_bucket = rw r (record { high = rw (chain_record x l) (next_high bucket_of b m ss l); here = (chain_at x l).here })
 
       pub place_chain : place_from q j (drop j ss) ≡ place_from q m (drop m ss)
-      place_chain = rw (r ∙ chain_record x l) (onward (place_from q) q place_passes ss bucket_of b has m refl)
+      place_chain = rw r (onward_chain (place_from q) q place_passes ss b has x l refl)
 
     -- The record at i does not pass: what comes after it decides.
     pub place_after : (i : ℕ) → i < length ss → q (get_or ss i []) ≡ false → place_from q (i + 1) (drop (i + 1) ss) ≡ place_from q i (drop i ss)

@@ -1,25 +1,19 @@
--- The records of a class, such as a bucket or a kind, from a number on; the chains of an index; what is left from the i-th record on.
+-- The records of a class, such as a bucket or a kind, from a number on; the chains of an index; walks over what is left from the i-th record on.
 use Rattle.std.specs.Prelude.{if◌then◌else◌}
 use Prim.Native.Nat.{ℕ, zero, suc, ◌+◌, ◌-◌, ◌/◌, ◌≤◌, ◌<◌}
 use mathlib.Core.Path.{◌≡◌, refl, sym, ◌∙◌}
 use mathlib.Core.List.{List, [], ◌∷◌}
-use mathlib.Core.Bool.{Bool, true, false}
+use mathlib.Core.Bool.{Bool, true, false, false≢true}
 use native.Mathlib.Nat.{add-zero}
 use native.Mathlib.Numerals.{add-one}
 use native.Mathlib.Omega.{arith}
 use lib.Dec.{eqb, ltb}
-use lib.ListN.{length, drop, get_or, drop_of_length-le, length-drop}
+use lib.ListN.{length, drop, get_or, length-drop}
 use lib.Seq.{drop-cons, drop-drop, get_or-drop}
+use Rattle.std.proofs.lemmas.List.{drop_all}
 use borrow.Author.Tests.{eqb-true, eqb-false, ltb-true, ltb-false}
-use Rattle.index.specs.Index.{bucket_of, tags_of, chain_scale, record_of, first_from, next_in, ChainFrom}
-
--- What is left from the i-th record on: that record, and what is left from the next one on; past the last, nothing.
-module _ (ss : List (List ℕ)) (i : ℕ) where
-  pub left_turn : i < length ss → drop i ss ≡ get_or ss i [] ∷ drop (i + 1) ss
-  left_turn h = rw (add-one i, drop-cons ss i [] h)
-
-  pub left_end : length ss ≤ i → drop i ss ≡ []
-  left_end h = drop_of_length-le ss h
+use Rattle.model.specs.Site.{kind}
+use Rattle.index.specs.Index.{buckets, bucket_of, tags_of, chain_scale, record_of, first_from, next_in, head, link, after, ChainFrom, IndexedFrom}
 
 -- Records by a class, such as their bucket or their kind.
 module _ (class : List ℕ → ℕ) where
@@ -44,11 +38,15 @@ module _ (class : List ℕ → ℕ) where
           record { low = omega (arith, h.low); high = omega (arith, h.high); here = λ l. rw d (h.here (omega (arith, h.low))) }
 
   module _ (c i : ℕ) (ss : List (List ℕ)) where
+    next_low : i ≤ next_in class c i ss
+    unfolding next_in
+    next_low = (found c i (drop i ss)).low
+
     pub next_high : i ≤ length ss → next_in class c i ss ≤ length ss
     unfolding next_in
     next_high h = omega (arith, (found c i (drop i ss)).high, length-drop i ss)
 
-    pub next_here : next_in class c i ss < length ss → class (get_or ss (next_in class c i ss) []) ≡ c
+    next_here : next_in class c i ss < length ss → class (get_or ss (next_in class c i ss) []) ≡ c
     unfolding next_in
     next_here h =
         let f = found c i (drop i ss) in
@@ -62,7 +60,7 @@ module _ (class : List ℕ → ℕ) where
 
     pub next_end : length ss ≤ i → next_in class c i ss ≡ i
     unfolding next_in first_from
-    next_end h = rw (left_end ss i h)
+    next_end h = rw (drop_all i ss h)
 
   -- What is next from the k-th on is next from all up to it.
   pub next_again : (c k : ℕ) (ss : List (List ℕ)) (d : ℕ) → k + d ≤ next_in class c k ss → next_in class c (k + d) ss ≡ next_in class c k ss
@@ -121,6 +119,12 @@ module _ {b m : ℕ} {ss : List (List ℕ)} {chain : ℕ} (x : ChainFrom b m ss 
       other : (j : ℕ) (s : List ℕ) (ts : List (List ℕ)) → eqb (bucket_of s) b ≡ false → tags_of b (s ∷ ts) ≡ tags_of b ts
       other j s ts n = rw n
 
+-- A walk over the records from the k-th on that has come to i: along the chain of a bucket, or, where that is left, over the records of a kind.
+pub record Walk {A : Type 0} (f : ℕ → List (List ℕ) → A) (b k : ℕ) (w : A) (ss : List (List ℕ)) (along : Bool) (i : ℕ) : Type 0 where
+  pub low : k ≤ i
+  pub here : along ≡ true → i < length ss → bucket_of (get_or ss i []) ≡ b
+  pub left : f i (drop i ss) ≡ w
+
 -- What passes over each record that a test does not pass.
 module _ {A : Type 0} (f : ℕ → List (List ℕ) → A) (q : List ℕ → Bool)
     (passes : (k : ℕ) (s : List ℕ) (ss : List (List ℕ)) → q s ≡ false → f k (s ∷ ss) ≡ f (suc k) ss) (ss : List (List ℕ)) where
@@ -141,3 +145,30 @@ module _ {A : Type 0} (f : ℕ → List (List ℕ) → A) (q : List ℕ → Bool
           go : (t : Bool) → q s ≡ t → t ≡ false
           go true p = absurd (eqb-false (class s) c e (has s p))
           go false p = refl
+
+  -- Only records of a bucket pass the test.
+  module _ (b : ℕ) (has : (s : List ℕ) → q s ≡ true → bucket_of s ≡ b) where
+    -- From the m-th record on, the first of the bucket's chain decides.
+    pub onward_chain : {w : A} {m chain : ℕ} → ChainFrom b m ss chain → m ≤ length ss → f m (drop m ss) ≡ w → f (record_of chain) (drop (record_of chain) ss) ≡ w
+    onward_chain {m = m} x l p = rw (chain_record x l) (onward bucket_of b has m p)
+
+    module _ (k : ℕ) (index : List ℕ) (x : IndexedFrom k ss index) where
+      chained : {w : A} {m chain : ℕ} → (along : Bool) (j : ℕ) → ChainFrom b m ss chain → k ≤ m → m ≤ length ss → f m (drop m ss) ≡ w → j ≡ record_of chain
+          → Walk f b k w ss along j
+      chained {m = m} along j c l h p e =
+          let n : k ≤ record_of _ = omega (arith, next_low bucket_of b m ss, chain_record c h) in
+          rw e (record { low = n; here = λ t. (chain_at c h).here; left = onward_chain c h p })
+
+      -- The first record of the bucket, with what decides from the k-th on.
+      pub walk_from : (along : Bool) (i : ℕ) → b < buckets → i ≡ record_of (head b index) → Walk f b k (f k (drop k ss)) ss along i
+      walk_from along i l e = chained along i (record { is = x.heads b l; few = x.few }) (omega arith) x.within refl e
+
+      -- The record at i does not pass. A chain that was left is not taken up again.
+      pub walk_past : {w : A} (kd : ℕ) → ((s : List ℕ) → q s ≡ true → kind s ≡ kd) → (along next : Bool) (i j : ℕ) → (next ≡ true → along ≡ true)
+          → i < length ss → Walk f b k w ss along i → q (get_or ss i []) ≡ false → j ≡ after along kd i ss index → Walk f b k w ss next j
+      walk_past kd kinds true next i j o h y n e =
+          let c : ChainFrom b (i + 1) ss (link i index) = record { is = rw (y.here refl h) at (x.links i y.low h); few = x.few } in
+          chained next j c (omega (arith, y.low)) (omega arith) (past i h n y.left) e
+      walk_past kd kinds false next i j o h y n e =
+          let l : k ≤ next_in kind kd (i + 1) ss = omega (arith, y.low, next_low kind kd (i + 1) ss) in
+          rw e (record { low = l; here = λ t. absurd (false≢true (o t)); left = onward kind kd kinds (i + 1) (past i h n y.left) })

@@ -17,10 +17,10 @@ mod bucket; // bucket.rt: buckets, and the classes of rules
 mod chain; // chain.rt: the records of a bucket from one on
 mod indexed; // indexed.rt: a site with its index, and the first record in it of what is sought
 
+use bucket::BUCKETS;
 pub use bucket::{Bucket, Class, TAGS};
 pub use chain::Chain;
 pub use indexed::{IndexedSite, Keyed, LONG_CHAIN, Sought};
-use bucket::BUCKETS;
 use model::layout::FACTOR_VALUE;
 use model::numbers::{ACCESS_RULE, AUTHENTICATION_FACTOR, MODULUS, ROLE_IDENTIFYING};
 use octets::Number;
