@@ -1,5 +1,5 @@
 // The lookups in a site by its index, each with the promise of its fellow on any slice.
-ghost use Rattle.std.specs.Prelude.{◌≡◌, ◌<◌, MatchOption, []};
+ghost use Rattle.std.specs.Prelude.{◌≡◌, ◌<◌, [], unwrap_or, option_copied};
 ghost use Rattle.model.specs.Numbers.{authentication_factor};
 ghost use Rattle.model.specs.Site.{records, is_at, find_in};
 ghost use Rattle.model.specs.Accept as Accept;
@@ -103,7 +103,7 @@ pub fn none_or_exists<O: Placed>(site: &IndexedSite, object: O) -> bool
 
 // The first factor that fits what is presented.
 pub fn find_factor<'a>(site: &IndexedSite<'a>, p: Presented) -> Option<&'a Record>
-    ensures { MatchOption result (find_in (fits_presented p) (records site.now) ≡ []) (λ part. part.now ≡ find_in (fits_presented p) (records site.now)) }
+    ensures { unwrap_or (option_copied result) [] ≡ find_in (fits_presented p) (records site.now) }
 {
     let i = site.first(p)?;
     Some(site.record_at(i))
