@@ -1,9 +1,9 @@
 // The calls, on slices. Every call checks the site anew, and nothing is written before all checks have passed.
 #![tactic(auto, unfolding(model::specs::Calls::is_worked, model::specs::Calls::fresh_returned, model::specs::Calls::fresh_state, model::specs::Calls::check_state, model::specs::Calls::run_returned, model::specs::Calls::run_journal))]
 
-ghost use Rattle.std.specs.Prelude.{◌≡◌, ◌*◌, ◌/◌, length, IfOk};
+ghost use Rattle.std.specs.Prelude.{◌≡◌, ◌*◌, ◌/◌, ◌%◌, length, IfOk};
 ghost use Rattle.model.specs.Calls.{number, check_site, fresh_returned, fresh_result, fresh_state, check_state, run_returned, run_result, run_journal};
-ghost use Rattle.site.specs.Parts.{outcome};
+ghost use Rattle.index.specs.Index.{Indexed};
 
 use index::{INDEX_SIZE, IndexedSite, UNBUILT, Words};
 use model::Refusal;
@@ -24,25 +24,21 @@ pub fn check_site(site: &[u8]) -> Result<(), Refusal>
     ensures { result ≡ check_site site.now }
 {
     let mut words = [UNBUILT; INDEX_SIZE];
-    site::check::check_site(site, &mut words)?;
-    Ok(())
+    site::check::check_site(site, &mut words)
 }
 
-// Refusals 1 to 5; else the site with its index.
-fn fresh_checked<'a>(
-    site: &'a [u8],
-    words: &'a mut Words,
-    state: &[u8],
-) -> Result<IndexedSite<'a>, Refusal>
-    ensures value { outcome result ≡ fresh_returned site.now state.now }
-    ensures site { IfOk result (λ s. s ≡ site.now) }
-    ensures state_len { IfOk result (λ s. length state.now ≡ length site.now) }
+// Refusals 1 to 5; it leaves the index of a site that is worked through, as do the next two.
+fn fresh_checked(site: &[u8], words: &mut Words, state: &[u8]) -> Result<(), Refusal>
+    ensures value { result ≡ fresh_returned site.now state.now }
+    ensures index { IfOk result (λ u. Indexed site.now words.new) }
+    ensures site_len { IfOk result (λ u. length site.now % 32 ≡ 0) }
+    ensures state_len { IfOk result (λ u. length state.now ≡ length site.now) }
 {
-    let indexed = site::check::check_site(site, words)?;
+    site::check::check_site(site, words)?;
     if state.len() != site.len() {
         return Err(Refusal::StateLength);
     }
-    Ok(indexed)
+    Ok(())
 }
 
 // The fresh state: refusals 1 to 5; turned back, the state stays as it was.
@@ -55,21 +51,18 @@ pub fn make_fresh(site: &[u8], state: &mut [u8]) -> Result<(), Refusal>
     Ok(())
 }
 
-// Refusals 1 to 6; else the site with its index.
-fn state_checked<'a>(
-    site: &'a [u8],
-    words: &'a mut Words,
-    state: &[u8],
-) -> Result<IndexedSite<'a>, Refusal>
-    ensures value { outcome result ≡ check_state site.now state.now }
-    ensures site { IfOk result (λ s. s ≡ site.now) }
-    ensures state_len { IfOk result (λ s. length state.now ≡ length site.now) }
+// Refusals 1 to 6.
+fn state_checked(site: &[u8], words: &mut Words, state: &[u8]) -> Result<(), Refusal>
+    ensures value { result ≡ check_state site.now state.now }
+    ensures index { IfOk result (λ u. Indexed site.now words.new) }
+    ensures site_len { IfOk result (λ u. length site.now % 32 ≡ 0) }
+    ensures state_len { IfOk result (λ u. length state.now ≡ length site.now) }
 {
-    let indexed = fresh_checked(site, words, state)?;
-    if !state::well::is_well_formed(&indexed, state) {
+    fresh_checked(site, words, state)?;
+    if !state::well::is_well_formed(&IndexedSite::new(site, words), state) {
         return Err(Refusal::StateForm);
     }
-    Ok(indexed)
+    Ok(())
 }
 
 // The state check: refusals 1 to 6.
@@ -77,31 +70,31 @@ pub fn check_state(site: &[u8], state: &[u8]) -> Result<(), Refusal>
     ensures { result ≡ check_state site.now state.now }
 {
     let mut words = [UNBUILT; INDEX_SIZE];
-    state_checked(site, &mut words, state)?;
-    Ok(())
+    state_checked(site, &mut words, state)
 }
 
-// Refusals 1 to 6, 10 and 11; else the site with its index.
-fn run_checked<'a>(
-    site: &'a [u8],
-    words: &'a mut Words,
+// Refusals 1 to 6, 10 and 11.
+fn run_checked(
+    site: &[u8],
+    words: &mut Words,
     state: &[u8],
     journal: &[u8],
     answers: &[u8],
-) -> Result<IndexedSite<'a>, Refusal>
-    ensures value { outcome result ≡ run_returned site.now state.now journal.now answers.now }
-    ensures site { IfOk result (λ s. s ≡ site.now) }
-    ensures state_len { IfOk result (λ s. length state.now ≡ length site.now) }
-    ensures answers_len { IfOk result (λ s. length answers.now ≡ length journal.now / 24 * 16) }
+) -> Result<(), Refusal>
+    ensures value { result ≡ run_returned site.now state.now journal.now answers.now }
+    ensures index { IfOk result (λ u. Indexed site.now words.new) }
+    ensures site_len { IfOk result (λ u. length site.now % 32 ≡ 0) }
+    ensures state_len { IfOk result (λ u. length state.now ≡ length site.now) }
+    ensures answers_len { IfOk result (λ u. length answers.now ≡ length journal.now / 24 * 16) }
 {
-    let indexed = state_checked(site, words, state)?;
+    state_checked(site, words, state)?;
     if (journal.len() % ENTRY_SIZE != 0) | (LARGEST_JOURNAL < journal.len()) {
         return Err(Refusal::JournalLength);
     }
     if answers.len() != journal.len() / ENTRY_SIZE * ANSWER_SIZE {
         return Err(Refusal::AnswersLength);
     }
-    Ok(indexed)
+    Ok(())
 }
 
 // The journal run: refusals 1 to 6, 10, 11; turned back, state and answers stay as they were. A bad entry is refused in its own answer.
@@ -114,7 +107,7 @@ pub fn work_through(
     ensures { run_result result state.new answers.new ≡ run_journal site.now state.old journal.now answers.old }
 {
     let mut words = [UNBUILT; INDEX_SIZE];
-    let indexed = run_checked(site, &mut words, state, journal, answers)?;
-    journal::run::run(&indexed, state, journal, answers);
+    run_checked(site, &mut words, state, journal, answers)?;
+    journal::run::run(&IndexedSite::new(site, &words), state, journal, answers);
     Ok(())
 }

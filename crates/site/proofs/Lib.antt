@@ -1,4 +1,5 @@
 pub mod Records
+pub mod RecordKinds
 pub mod Places
 pub mod Panels
 pub mod Values

@@ -1,8 +1,8 @@
 -- The records of a site: what is found of them or is not, what passes, and what a rule in range names.
-use Rattle.std.specs.Prelude.{if◌then◌else◌, cond, Some, None, find}
+use Rattle.std.specs.Prelude.{if◌then◌else◌, cond, Some, find}
 use Rattle.std.specs.Option.{unwrap_or}
 use Prim.Native.Nat.{ℕ, zero, suc, ◌+◌, ◌<◌}
-use Rattle.std.specs.List.{list_all}
+use Rattle.std.specs.List.{list_all, list_any, range_with_len}
 use mathlib.Core.Path.{◌≡◌, refl, ap}
 use mathlib.Core.List.{List, [], ◌∷◌}
 use mathlib.Core.Bool.{Bool, true, false, ◌&&◌, ◌||◌, and-false}
@@ -16,7 +16,7 @@ use Rattle.model.specs.Accept.{real, rule_in_range, in_range_as, in_range, twins
 use Rattle.model.specs.declared.RecordKind.TheVariants.{OfRule}
 use Rattle.model.proofs.Laws.{and_left, and_right}
 use Rattle.model.proofs.Shifts.{rule_range, rule_location}
-use Rattle.index.proofs.Walks.{left_turn}
+use Rattle.index.proofs.Walks.{left_turn, left_end}
 
 -- What is missing has no bytes.
 pub no_bytes : (s : List ℕ) → eqb (length s) 0 ≡ missing s
@@ -24,38 +24,42 @@ no_bytes [] = refl
 no_bytes (x ∷ s) = eqb-suc-zero (length s)
 
 -- What the library finds.
-module _ (q : List ℕ → Bool) where
-  find_is : (ss : List (List ℕ)) → unwrap_or (find q ss) [] ≡ find_in q ss
-  find_is [] = refl
-  find_is (s ∷ ss) = go (q s) (find_is ss)
-    where
-      go : (c : Bool) → unwrap_or (find q ss) [] ≡ find_in q ss → unwrap_or (cond c (Some s) (find q ss)) [] ≡ if c then s else find_in q ss
-      go true h = refl
-      go false h = h
+pub find_is : (q : List ℕ → Bool) (ss : List (List ℕ)) → unwrap_or (find q ss) [] ≡ find_in q ss
+find_is q [] = refl
+find_is q (s ∷ ss) = go (q s) (find_is q ss)
+  where
+    go : (c : Bool) → unwrap_or (find q ss) [] ≡ find_in q ss → unwrap_or (cond c (Some s) (find q ss)) [] ≡ if c then s else find_in q ss
+    go true h = refl
+    go false h = h
 
-  pub find_found : (ss : List (List ℕ)) (s : List ℕ) → Some s ≡ find q ss → s ≡ find_in q ss
-  find_found ss s e = rw (← e) at (find_is ss)
+-- What the library's `all` answers.
+pub all_is : {A : Type 0} (q : A → Bool) (xs : List A) → list_all q xs ≡ all q xs
+all_is q [] = refl
+all_is q (x ∷ xs) = ap (λ c. q x && c) (all_is q xs)
 
-  pub find_none : (ss : List (List ℕ)) → None ≡ find q ss → [] ≡ find_in q ss
-  find_none ss e = rw (← e) at (find_is ss)
-
--- Where every record passes, the i-th does.
+-- Where every record passes, the i-th does; where one does not, not every one does.
 module _ (q : List ℕ → Bool) where
   pub all_at : (ss : List (List ℕ)) → all q ss ≡ true → (i : ℕ) (s : List ℕ) → i < length ss → q (get_or ss i s) ≡ true
   all_at [] h i d l = elim l [ ]
   all_at (s ∷ ss) h zero d l = and_left (q s) (all q ss) h
   all_at (s ∷ ss) h (suc i) d l = all_at ss (and_right (q s) (all q ss) h) i d (omega arith)
 
-  -- What the library's `all` answers.
-  pub all_is : (ss : List (List ℕ)) → list_all q ss ≡ all q ss
-  all_is [] = refl
-  all_is (s ∷ ss) = ap (λ c. q s && c) (all_is ss)
+  pub all_not : (ss : List (List ℕ)) (i : ℕ) (s : List ℕ) → i < length ss → q (get_or ss i s) ≡ false → all q ss ≡ false
+  all_not [] i d l h = elim l [ ]
+  all_not (s ∷ ss) zero d l h = rw h
+  all_not (s ∷ ss) (suc i) d l h = rw (all_not ss i d (omega arith) h) (and-false (q s))
 
 -- The same twice: the record at i with one after it, or two of those after it.
 pub twice_turn : (ss : List (List ℕ)) (i : ℕ) → i < length ss
     → twice (drop i ss) ≡ any (twins (get_or ss i [])) (drop (i + 1) ss) || twice (drop (i + 1) ss)
 unfolding twice
 twice_turn ss i h = rw (left_turn ss i h)
+
+-- So it is where each of them in turn is tried.
+pub twice_of : (ss : List (List ℕ)) (n i : ℕ) → i + n ≡ length ss → list_any (λ j. any (twins (get_or ss j [])) (drop (j + 1) ss)) (range_with_len i n) ≡ twice (drop i ss)
+unfolding twice
+twice_of ss zero i e = rw (left_end ss i (omega arith))
+twice_of ss (suc n) i e = rw (twice_turn ss i (omega arith), twice_of ss n (i + 1) (omega arith))
 
 -- A rule has no twin.
 pub rule_alone : (s : List ℕ) (ss : List (List ℕ)) → kind s ≡ access_rule → any (twins s) ss ≡ false

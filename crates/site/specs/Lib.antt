@@ -1,4 +1,3 @@
 pub mod Place
 pub mod Factor
 pub mod Sought
-pub mod Parts

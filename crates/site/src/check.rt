@@ -1,10 +1,9 @@
 // The site check: refusals 1 to 4, each over the whole site before the next. It leaves the index of a site that is worked through.
-ghost use Rattle.std.specs.Prelude.{◌≡◌, ◌≤◌, length, true, false, IfOk, MatchResult};
+ghost use Rattle.std.specs.Prelude.{◌≡◌, ◌≤◌, ◌%◌, length, true, false, IfOk, MatchResult};
 ghost use Rattle.model.specs.Words.{all};
 ghost use Rattle.model.specs.Accept.{in_range};
 ghost use Rattle.model.specs.Calls.{check_site};
-ghost use Rattle.index.specs.Index.{most_records, IndexedFrom};
-ghost use Rattle.site.specs.Parts.{outcome};
+ghost use Rattle.index.specs.Index.{most_records, Indexed, IndexedFrom};
 
 use super::{names, range, twins};
 use index::{IndexedSite, Words};
@@ -27,9 +26,10 @@ fn index_in_range(records: &[Record], words: &mut Words) -> Result<(), Refusal>
     Ok(())
 }
 
-pub fn check_site<'a>(site: &'a [u8], words: &'a mut Words) -> Result<IndexedSite<'a>, Refusal>
-    ensures value { outcome result ≡ check_site site.now }
-    ensures site { IfOk result (λ s. s ≡ site.now) }
+pub fn check_site(site: &[u8], words: &mut Words) -> Result<(), Refusal>
+    ensures value { result ≡ check_site site.now }
+    ensures index { IfOk result (λ u. Indexed site.now words.new) }
+    ensures site_len { IfOk result (λ u. length site.now % 32 ≡ 0) }
 {
     if (site.len() % RECORD_SIZE != 0) | (LARGEST_SITE < site.len()) {
         return Err(Refusal::SiteLength);
@@ -42,5 +42,5 @@ pub fn check_site<'a>(site: &'a [u8], words: &'a mut Words) -> Result<IndexedSit
     if !names::all_names_exist(&indexed) {
         return Err(Refusal::SiteMissing);
     }
-    Ok(indexed)
+    Ok(())
 }

@@ -1,5 +1,5 @@
 // The lookups in a site by its index, each with the promise of its fellow on any slice.
-ghost use Rattle.std.specs.Prelude.{◌≡◌, ◌<◌, MatchOption, []};
+ghost use Rattle.std.specs.Prelude.{◌≡◌, [], unwrap_or, option_copied};
 ghost use Rattle.model.specs.Numbers.{authentication_factor};
 ghost use Rattle.model.specs.Site.{records, is_at, find_in};
 ghost use Rattle.model.specs.Accept as Accept;
@@ -13,7 +13,7 @@ ghost use Rattle.site.specs.Factor.{fits as fits_presented, presented_bucket};
 use super::Presented;
 use super::lookup::{is_at, is_fitting};
 use super::object::{Object, Placed};
-use index::{IndexedSite, Keyed, Sought};
+use index::{Bucket, IndexedSite, Keyed, Sought};
 use model::numbers::{AUTHENTICATION_FACTOR, NONE};
 use records::Record;
 
@@ -42,7 +42,7 @@ impl<O: Placed> Sought for RecordOf<O> {
 }
 
 impl<O: Placed> Keyed for RecordOf<O> {
-    fn bucket(self) -> usize {
+    fn bucket(self) -> Bucket {
         index::object_bucket(O::KIND, self.0.instance())
     }
 }
@@ -70,7 +70,7 @@ impl Sought for Presented {
 
 #[tactic(auto, unfolding(crate::specs::Factor::presented_bucket))]
 impl Keyed for Presented {
-    fn bucket(self) -> usize {
+    fn bucket(self) -> Bucket {
         let owner = match self.confirms {
             Some(credential) => credential.0,
             None => 0,
@@ -102,8 +102,8 @@ pub fn none_or_exists<O: Placed>(site: &IndexedSite, object: O) -> bool
 }
 
 // The first factor that fits what is presented.
-pub fn find_factor<'a>(site: &IndexedSite<'a>, p: Presented) -> Option<&'a Record>
-    ensures { MatchOption result (find_in (fits_presented p) (records site.now) ≡ []) (λ part. part.now ≡ find_in (fits_presented p) (records site.now)) }
+pub fn find_factor<'s>(site: &IndexedSite<'s, '_>, p: Presented) -> Option<&'s Record>
+    ensures { unwrap_or (option_copied result) [] ≡ find_in (fits_presented p) (records site.now) }
 {
     let i = site.first(p)?;
     Some(site.record_at(i))

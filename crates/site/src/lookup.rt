@@ -1,5 +1,5 @@
 // The record that a number names, and its place, on any slice.
-ghost use Rattle.std.specs.Prelude.{◌≡◌, ◌+◌, ◌≤◌, length, take, drop};
+ghost use Rattle.std.specs.Prelude.{◌≡◌, ◌+◌, ◌≤◌, [], length, take, drop, unwrap_or, option_copied};
 ghost use Rattle.octets.specs.Octets.{same};
 ghost use Rattle.model.specs.Site as Site;
 ghost use Rattle.model.specs.Site.{records, is_at, find_in, lookup};
@@ -32,14 +32,21 @@ pub fn place_of<O: Object>(site: &[u8], object: O) -> Option<usize>
         .position(|part| is_at(part, object))
 }
 
+// A record that is found, else the empty part.
+fn part_of<'a>(part: Option<&'a Record>) -> &'a [u8]
+    ensures { result.now ≡ unwrap_or (option_copied part.entry) [] }
+{
+    match part {
+        Some(part) => part,
+        None => &[],
+    }
+}
+
 // The first record of an object, else the empty part.
 pub fn find<O: Object>(site: &[u8], object: O) -> &[u8]
     ensures { result.now ≡ lookup O.KIND (O.instance object) site.now }
 {
-    match index::records(site).iter().find(|part| is_at(part, object)) {
-        Some(part) => part,
-        None => &[],
-    }
+    part_of(index::records(site).iter().find(|part| is_at(part, object)))
 }
 
 // Whether eight bytes of one slice are eight bytes of another. They are compared as two words, which is quicker than byte by byte or as one number, and
@@ -58,31 +65,31 @@ fn has_value(part: &Record, value: [u8; 8]) -> bool
     same_eight(part, FACTOR_VALUE, &value, 0)
 }
 
-// Whether a factor has a format and a value.
+// Whether a factor has the format and the value that are presented.
 #[tactic(auto, unfolding(model::specs::Checks::presents))]
-fn is_presented(part: &Record, format: u8, value: [u8; 8]) -> bool
-    ensures { result ≡ presents format value part.now }
+fn is_presented(part: &Record, p: Presented) -> bool
+    ensures { result ≡ presents p.format p.value part.now }
 {
-    (format_of(part) == format) & has_value(part, value)
+    (format_of(part) == p.format) & has_value(part, p.value)
 }
 
 #[tactic(auto, unfolding(model::specs::Checks::identifying))]
-fn is_identifying(part: &Record, format: u8, value: [u8; 8]) -> bool
-    ensures { result ≡ identifying format value part.now }
+fn is_identifying(part: &Record, p: Presented) -> bool
+    ensures { result ≡ identifying p.format p.value part.now }
 {
     (kind_of(part) == AUTHENTICATION_FACTOR)
         & (role_of(part) == ROLE_IDENTIFYING)
-        & is_presented(part, format, value)
+        & is_presented(part, p)
 }
 
 #[tactic(auto, unfolding(model::specs::Checks::confirming))]
-fn is_confirming(part: &Record, credential: CredentialId, format: u8, value: [u8; 8]) -> bool
-    ensures { result ≡ confirming credential format value part.now }
+fn is_confirming(part: &Record, credential: CredentialId, p: Presented) -> bool
+    ensures { result ≡ confirming credential p.format p.value part.now }
 {
     (kind_of(part) == AUTHENTICATION_FACTOR)
         & (instance_of(part) == credential.0)
         & (role_of(part) == ROLE_CONFIRMING)
-        & is_presented(part, format, value)
+        & is_presented(part, p)
 }
 
 // Whether a factor fits what is presented; the lookup by the index shares it.
@@ -91,8 +98,8 @@ pub(crate) fn is_fitting(part: &Record, p: Presented) -> bool
     ensures { result ≡ fits p part.now }
 {
     match p.confirms {
-        Some(credential) => is_confirming(part, credential, p.format, p.value),
-        None => is_identifying(part, p.format, p.value),
+        Some(credential) => is_confirming(part, credential, p),
+        None => is_identifying(part, p),
     }
 }
 
@@ -100,8 +107,5 @@ pub(crate) fn is_fitting(part: &Record, p: Presented) -> bool
 pub fn find_factor(site: &[u8], p: Presented) -> &[u8]
     ensures { result.now ≡ find_in (fits p) (records site.now) }
 {
-    match index::records(site).iter().find(|part| is_fitting(part, p)) {
-        Some(part) => part,
-        None => &[],
-    }
+    part_of(index::records(site).iter().find(|part| is_fitting(part, p)))
 }

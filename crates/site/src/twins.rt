@@ -88,10 +88,5 @@ fn has_twin_after(site: &IndexedSite, i: usize) -> bool
 pub(crate) fn has_twins(site: &IndexedSite) -> bool
     ensures { result ≡ twice (records site.now) }
 {
-    for i in 0..site.records().len() {
-        if has_twin_after(site, i) {
-            return true;
-        }
-    }
-    false
+    (0..site.records().len()).any(|i| has_twin_after(site, i))
 }

@@ -9,7 +9,7 @@ use Rattle.site.proofs.Places.{found_at, found_nowhere}
 pub returns-in_err-i : goal.returns-in_err-i
 returns-in_err-i c =
     let n = found_nowhere (fits c.args.p) (records c.args.site.now) (sym c.first.ensures ∙ c.in_err-i.was) in
-    rw c.from_residual.ensures n
+    rw c.from_residual.ensures (sym n)
 
 pub record_at-requires : goal.record_at-requires
 record_at-requires c =

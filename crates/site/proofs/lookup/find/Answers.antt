@@ -1,26 +1,17 @@
 -- What the library's search gives.
 use mathlib.Core.Path.{◌≡◌}
-use Rattle.std.specs.Prelude.{find}
-use Rattle.std.specs.Option.{option_map}
+use Rattle.std.specs.Prelude.{find, option_map}
 use Rattle.std.proofs.Common.{rules, tests}
 use Rattle.std.proofs.lemmas.Iterator.{YieldsList-from_slice}
 use Rattle.std.proofs.lemmas.Iterator.Search.{find_from_yields_List}
 use Rattle.model.specs.Site.{records, is_at, lookup}
-use Rattle.site.proofs.Records.{find_found, find_none}
+use Rattle.site.proofs.Records.{find_is}
 use Rattle.site.proofs.lookup.find.Goals as goal
 
-pub returns-in-Some : goal.returns-in-Some
+pub returns : goal.returns
 unfolding lookup
-returns-in-Some g c =
+returns g c =
     let q = is_at g.O.Object.KIND (g.O.Object.instance c.args.object) in
     let e : option_map (λ r. r.now) c.find.result ≡ find q c.records.result.now =
     find_from_yields_List q _ _ c.find.result c.find.ensures.ran (YieldsList-from_slice _ c.iter.ensures.rest) (λ x b q k. search (rules, tests)) in
-    find_found q (records c.args.site.now) c.in-Some.part.now (rw (c.records.ensures, c.in-Some.is) at e)
-
-pub returns-in-None : goal.returns-in-None
-unfolding lookup
-returns-in-None g c =
-    let q = is_at g.O.Object.KIND (g.O.Object.instance c.args.object) in
-    let e : option_map (λ r. r.now) c.find.result ≡ find q c.records.result.now =
-    find_from_yields_List q _ _ c.find.result c.find.ensures.ran (YieldsList-from_slice _ c.iter.ensures.rest) (λ x b q k. search (rules, tests)) in
-    find_none q (records c.args.site.now) (rw (c.records.ensures, c.in-None.is) at e)
+    rw (c.part_of.ensures, e, c.records.ensures) (find_is q (records c.args.site.now))
