@@ -3,7 +3,7 @@ use Rattle.std.specs.Prelude.{if◌then◌else◌, Option, Some, None}
 use Prim.Native.Nat.{ℕ, suc, ◌-◌, ◌/◌, ◌≤◌, ◌<◌}
 use mathlib.Core.Path.{◌≡◌, refl, sym}
 use mathlib.Core.List.{List, [], ◌∷◌}
-use mathlib.Core.Bool.{Bool, true, false, ◌||◌}
+use mathlib.Core.Bool.{Bool, true, false}
 use native.Mathlib.Omega.{arith}
 use lib.ListN.{length, get_or}
 use Rattle.octets.proofs.GroupLaws.{length_group}
@@ -16,26 +16,27 @@ use Rattle.index.specs.Place.{place_from}
 use Rattle.site.specs.Place.{place_of}
 use Rattle.site.proofs.Records.{no_bytes}
 
--- What a place says of the records, the first of them counted as `from`, and a test: the record there is the first that passes, or none does.
+-- What a place says of the records, the first of them counted as `from`, and a test: the record there is the first that passes, or none does. Every law of
+-- places is from here.
 unfoldable pub First : (List ℕ → Bool) → ℕ → List (List ℕ) → Option ℕ → Type 0
 First q from ss (Some i) =
-    (from ≤ i) × (i - from < length ss) × (get_or ss (i - from) [] ≡ find_in q ss) × (q (get_or ss (i - from) []) ≡ true)
-First q from ss None = find_in q ss ≡ []
+    (from ≤ i) × (i - from < length ss) × (get_or ss (i - from) [] ≡ find_in q ss) × (q (get_or ss (i - from) []) ≡ true) × (any q ss ≡ true)
+First q from ss None = (find_in q ss ≡ []) × (any q ss ≡ false)
 
 later : (q : List ℕ → Bool) (from : ℕ) (s : List ℕ) (ss : List (List ℕ)) (p : Option ℕ) → q s ≡ false → First q (suc from) ss p → First q from (s ∷ ss) p
 unfolding First
 later q from s ss (Some i) e h =
     let d : i - from ≡ suc (i - suc from) = omega (arith, h.0) in
-    (omega (arith, h.0), omega (arith, h.0, h.1), rw (d, e) h.2, rw d h.3)
-later q from s ss None e h = rw e h
+    (omega (arith, h.0), omega (arith, h.0, h.1), rw (d, e) h.2, rw d h.3, rw e h.4)
+later q from s ss None e h = (rw e h.0, rw e h.1)
 
 pub first : (q : List ℕ → Bool) (from : ℕ) (ss : List (List ℕ)) → First q from ss (place_from q from ss)
 unfolding First place_from
-first q from [] = refl
+first q from [] = (refl, refl)
 first q from (s ∷ ss) = go (q s) refl (first q (suc from) ss)
   where
     go : (c : Bool) → q s ≡ c → First q (suc from) ss (place_from q (suc from) ss) → First q from (s ∷ ss) (if c then Some from else place_from q (suc from) ss)
-    go true e h = let d : from - from ≡ 0 = omega arith in (omega arith, omega arith, rw (d, e), rw d e)
+    go true e h = let d : from - from ≡ 0 = omega arith in (omega arith, omega arith, rw (d, e), rw d e, rw e)
     go false e h = later q from s ss (place_from q (suc from) ss) e h
 
 -- The first record that passes a test, at its place; and none, where it has none.
@@ -49,7 +50,7 @@ module _ (q : List ℕ → Bool) (ss : List (List ℕ)) where
 
   pub found_nowhere : place_from q 0 ss ≡ None → find_in q ss ≡ []
   unfolding First
-  found_nowhere e = rw e at (first q 0 ss)
+  found_nowhere e = let h : First q 0 ss None = rw e at (first q 0 ss) in h.0
 
 -- The place of a record that is found: it is the record there.
 pub place_found : (k i j : ℕ) (site : List ℕ) → place_of k i site ≡ Some j
@@ -84,10 +85,9 @@ place_tells k i site = go (place_of k i site) refl
 
 -- Some record passes where one that passes has a place.
 pub place_any : (q : List ℕ → Bool) (from : ℕ) (ss : List (List ℕ)) → is_some (place_from q from ss) ≡ any q ss
-unfolding place_from
-place_any q from [] = refl
-place_any q from (s ∷ ss) = go (q s) (place_any q (suc from) ss)
+unfolding First
+place_any q from ss = go (place_from q from ss) (first q from ss)
   where
-    go : (c : Bool) → is_some (place_from q (suc from) ss) ≡ any q ss → is_some (if c then Some from else place_from q (suc from) ss) ≡ c || any q ss
-    go true h = refl
-    go false h = h
+    go : (p : Option ℕ) → First q from ss p → is_some p ≡ any q ss
+    go (Some i) h = sym h.4
+    go None h = sym h.1

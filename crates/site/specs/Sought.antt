@@ -3,20 +3,26 @@ use Rattle.std.specs.Prelude.{Option, Some, None}
 use Prim.Native.Nat.{ℕ}
 use mathlib.Core.Path.{◌≡◌, sym}
 use mathlib.Core.List.{List}
-use mathlib.Core.Bool.{true, ◌&&◌}
+use mathlib.Core.Bool.{true, false, ◌&&◌, ◌||◌}
 use lib.Dec.{eqb}
-use borrow.Author.Tests.{eqb-true}
+use borrow.Author.Tests.{eqb-true, eqb-false}
 use Rattle.octets.specs.Octets.{field}
-use Rattle.model.specs.Numbers.{authentication_factor, role_identifying, role_confirming}
+use Rattle.model.specs.Numbers.{access_rule, authentication_factor, role_identifying, role_confirming}
 use Rattle.model.specs.Site.{kind, role, is_at}
 use Rattle.model.specs.Accept.{twins}
 use Rattle.model.specs.Checks.{presents, identifying, confirming}
 use Rattle.model.specs.declared.CredentialId.{CredentialId}
-use Rattle.model.proofs.Laws.{and_left, kind_at}
-use Rattle.index.specs.Index.{factor_bucket, bucket_of}
+use Rattle.model.proofs.Laws.{and_left, or_left, or_right, kind_at}
+use Rattle.index.specs.Index.{ByInstance, factor_bucket, bucket_of}
 use Rattle.index.proofs.Buckets.{identifying_bucket, confirming_bucket}
 use Rattle.site.specs.Factor.{fits_as, fits, presented_owner, presented_bucket}
 use Rattle.site.specs.declared.Presented.{Presented}
+
+-- Records of any kind but those of rules and factors are looked up by their instance.
+pub by_instance : (k : ℕ) → eqb k access_rule || eqb k authentication_factor ≡ false → ByInstance k
+by_instance k h =
+    let other = eqb-false k access_rule (or_left (eqb k access_rule) (eqb k authentication_factor) h) in
+    (other, eqb-false k authentication_factor (or_right (eqb k access_rule) (eqb k authentication_factor) h))
 
 -- A factor that fits what is presented, as one that confirms or as one that identifies.
 module _ (p : Presented) (s : List ℕ) where

@@ -26,6 +26,7 @@ fn index_in_range(records: &[Record], words: &mut Words) -> Result<(), Refusal>
     Ok(())
 }
 
+#[tactic(auto, unfolding(model::specs::Calls::check_site), using(index::proofs::Building::length_records))]
 pub fn check_site(site: &[u8], words: &mut Words) -> Result<(), Refusal>
     ensures value { result ≡ check_site site.now }
     ensures index { IfOk result (λ u. Indexed site.now words.new) }

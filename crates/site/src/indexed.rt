@@ -87,6 +87,7 @@ pub fn place_of<O: Placed>(site: &IndexedSite, object: O) -> Option<usize>
     site.first(RecordOf(object))
 }
 
+#[tactic(auto, using(crate::proofs::Places::place_tells))]
 pub fn exists<O: Placed>(site: &IndexedSite, object: O) -> bool
     ensures { result ≡ Accept.exists (records site.now) O.KIND (O.instance object) }
 {
@@ -102,6 +103,7 @@ pub fn none_or_exists<O: Placed>(site: &IndexedSite, object: O) -> bool
 }
 
 // The first factor that fits what is presented.
+#[tactic(auto, using(crate::proofs::Places::found_at, crate::proofs::Places::found_nowhere))]
 pub fn find_factor<'s>(site: &IndexedSite<'s, '_>, p: Presented) -> Option<&'s Record>
     ensures { unwrap_or (option_copied result) [] ≡ find_in (fits_presented p) (records site.now) }
 {

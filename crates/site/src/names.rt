@@ -23,6 +23,7 @@ fn zones_exist(site: &IndexedSite, part: &Record) -> bool
 }
 
 // In range the location kinds are those of zone and point.
+#[tactic(auto, using(crate::proofs::Records::point_location))]
 fn location_exists(site: &IndexedSite, part: &Record) -> bool
     requires { rule_in_range part.now ≡ true }
     ensures { result ≡ names_exist_as (Some OfRule) (records site.now) part.now }
@@ -37,7 +38,7 @@ fn location_exists(site: &IndexedSite, part: &Record) -> bool
 }
 
 // Whether what a record names is there: a point's zones, a rule's location, a factor's credential.
-#[tactic(auto, unfolding(model::specs::Accept::names_exist))]
+#[tactic(auto, unfolding(model::specs::Accept::names_exist), using(crate::proofs::Records::rule_in_range_law))]
 fn names_exist(site: &IndexedSite, part: &Record) -> bool
     requires { in_range part.now ≡ true }
     ensures { result ≡ Accept.names_exist (records site.now) part.now }

@@ -1,7 +1,9 @@
 // What an instance numbers.
 ghost use Rattle.std.specs.Prelude.{ℕ, ◌≡◌};
+ghost use mathlib.Core.Path.{refl};
 ghost use Rattle.model.specs.Numbers.{access_zone, access_point, access_rule, access_credential};
 ghost use Rattle.index.specs.Index.{ByInstance};
+ghost use Rattle.site.specs.Sought.{by_instance};
 
 use model::numbers::{ACCESS_CREDENTIAL, ACCESS_POINT, ACCESS_RULE, ACCESS_ZONE};
 use model::{CredentialId, PointId, RightsId, ZoneId};
@@ -36,7 +38,7 @@ impl Object for ZoneId {
 }
 
 impl Placed for ZoneId {
-    ghost by_instance = { (λ e. Prim.cc, λ e. Prim.cc) };
+    ghost by_instance = { by_instance access_zone refl };
 }
 
 impl Object for PointId {
@@ -52,7 +54,7 @@ impl Object for PointId {
 }
 
 impl Placed for PointId {
-    ghost by_instance = { (λ e. Prim.cc, λ e. Prim.cc) };
+    ghost by_instance = { by_instance access_point refl };
 }
 
 impl Object for CredentialId {
@@ -68,7 +70,7 @@ impl Object for CredentialId {
 }
 
 impl Placed for CredentialId {
-    ghost by_instance = { (λ e. Prim.cc, λ e. Prim.cc) };
+    ghost by_instance = { by_instance access_credential refl };
 }
 
 // A rights number numbers its rules, of which there may be many.

@@ -12,6 +12,7 @@ use model::{RecordKind, Zone, layout};
 use records::{FromPart, Record, site};
 
 // Whether n bytes are zero.
+#[tactic(auto, using(crate::proofs::Clear::clear_all))]
 pub fn is_clear(part: &[u8], at: usize, n: usize) -> bool
     requires { at + n ≤ length part.now }
     ensures { result ≡ clear at n part.now }

@@ -77,6 +77,7 @@ impl<'a> Sought for TwinOf<'a> {
 }
 
 // Whether a record after the i-th is the same as it: twins share a bucket. Rules, of which a bucket may hold many, are never twins.
+#[tactic(auto, using(crate::proofs::Places::place_any, crate::proofs::Records::rule_alone))]
 fn has_twin_after(site: &IndexedSite, i: usize) -> bool
     requires { i < length (records site.now) }
     ensures { result ≡ any (Accept.twins (get_or (records site.now) i [])) (drop (i + 1) (records site.now)) }
