@@ -21,6 +21,7 @@ impl Part for &Record {
     }
 }
 
+// `Number` has no zero of its own: a number of none is read of a record of zeros.
 impl Part for Option<&Record> {
     ghost bytes = { λ part. unwrap_or (option_copied part) [] };
 
