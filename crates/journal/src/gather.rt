@@ -68,7 +68,7 @@ fn factor_for<'s>(site: &IndexedSite<'s, '_>, waiting: CredentialId, e: Entry) -
 // The credential waited for, else that of the factor, else NONE.
 #[tactic(auto, unfolding(model::specs::Checks::credential_read))]
 fn credential_read(waiting: CredentialId, factor: Option<&Record>) -> CredentialId
-    ensures { result ≡ credential_read waiting (unwrap_or (option_copied factor) []) }
+    ensures { result ≡ credential_read waiting (unwrap_or (option_copied factor.entry) []) }
 {
     if waiting != CredentialId::NONE {
         return waiting;
@@ -78,7 +78,7 @@ fn credential_read(waiting: CredentialId, factor: Option<&Record>) -> Credential
 
 // The disable of a factor, where there is one.
 fn disable_of(factor: Option<&Record>) -> Option<u8>
-    ensures { result ≡ disable_of (unwrap_or (option_copied factor) []) }
+    ensures { result ≡ disable_of (unwrap_or (option_copied factor.entry) []) }
 {
     factor.map(|part| factor_disable_of(part))
 }
