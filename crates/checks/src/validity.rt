@@ -64,7 +64,7 @@ pub fn validate(k: Validity) -> Option<u16>
     k.inactive.then_some(numbers::DENIED_CREDENTIAL_INACTIVITY)
 }
 
-// Step 5 by itself: what comes first for an operation that reads no factor.
+// Step 5: its event in a situation, where it gives one.
 pub fn validity_event(v: Situation, e: Entry) -> Option<u16>
     ensures { result ≡ validity (validity_of v e) }
 {

@@ -1,8 +1,8 @@
 // The outcome of an event: counts, the answer, and the state records that are written.
 ghost use Rattle.std.specs.Prelude.{◌≡◌};
 ghost use Rattle.model.specs.Effects.{counts, count_after, answer_with, outcome_with, outcome_of};
-ghost use Rattle.conditions.specs.Room.{Room};
 
+use crate::Event;
 use crate::credential::credential_after;
 use crate::marks::{marks_of, named_of};
 use crate::point::point_after;
@@ -20,47 +20,46 @@ pub fn counts_at(v: Situation, x: u16, counting: bool) -> bool
 
 // Zone_To's count after the event.
 #[tactic(auto, unfolding(model::specs::Effects::count_after))]
-fn count_after(v: Situation, x: u16) -> u32
-    requires { Room v x }
-    ensures { result ≡ count_after v x }
+fn count_after(event: Event) -> u32
+    ensures { result ≡ count_after event.v event.x }
 {
-    if counts_at(v, x, v.zone_to.counting) {
-        v.count_to + 1
+    let count = event.v.count_to;
+    if counts_at(event.v, event.x, event.v.zone_to.counting) {
+        count + 1
     } else {
-        v.count_to
+        count
     }
 }
 
 #[tactic(auto, unfolding(model::specs::Effects::answer_with))]
-fn answer_with(v: Situation, x: u16, marks: u8, named: CredentialId) -> Answer
-    requires { Room v x }
-    ensures { result ≡ answer_with v x marks named }
+fn answer_with(event: Event, marks: u8, named: CredentialId) -> Answer
+    ensures { result ≡ answer_with event.v event.x marks named }
 {
     Answer {
-        event: x,
+        event: event.x,
         marks,
         refusal: NOT_REFUSED,
-        tag: next_tag(v.point_state.tag),
+        tag: next_tag(event.v.point_state.tag),
         credential: named,
-        count: count_after(v, x),
+        count: count_after(event),
     }
 }
 
 // What follows from an event: marks, the credential named and the point's state are those of the operation.
 #[tactic(auto, unfolding(model::specs::Effects::outcome_with))]
 pub fn outcome_with(
-    v: Situation,
+    event: Event,
     e: Entry,
-    x: u16,
     marks: u8,
     named: CredentialId,
     point: PointState,
 ) -> Outcome
-    requires { Room v x }
-    ensures { result ≡ outcome_with v e x marks named point }
+    ensures { result ≡ outcome_with event.v e event.x marks named point }
 {
+    let v = event.v;
+    let x = event.x;
     Outcome {
-        answer: answer_with(v, x, marks, named),
+        answer: answer_with(event, marks, named),
         point: Some(Write {
             instance: PointId(e.instance),
             state: point,
@@ -71,7 +70,7 @@ pub fn outcome_with(
         }),
         zone_to: counts_at(v, x, v.zone_to.counting).then_some(Write {
             instance: v.point.zone_to,
-            state: count_after(v, x),
+            state: count_after(event),
         }),
         zone_from: counts_at(v, x, v.zone_from.counting).then_some(Write {
             instance: v.point.zone_from,
@@ -82,14 +81,14 @@ pub fn outcome_with(
 
 // What a factor read does, at a point in service, that came to the event x.
 #[tactic(auto, unfolding(model::specs::Effects::outcome_of))]
-pub fn factor_outcome(v: Situation, e: Entry, x: u16) -> Outcome
-    requires { Room v x }
-    ensures { result ≡ outcome_of v e x }
+pub fn factor_outcome(event: Event, e: Entry) -> Outcome
+    ensures { result ≡ outcome_of event.v e event.x }
 {
+    let v = event.v;
+    let x = event.x;
     outcome_with(
-        v,
+        event,
         e,
-        x,
         marks_of(v, e, x),
         named_of(v, x),
         point_after(v, e, x),

@@ -9,12 +9,12 @@ use lib.Bits.{bit_or}
 use lib.Dec.{eqb}
 use lib.ListN.{length, take, drop, get_or, get_or-append, set, replicate, length-drop, length-set}
 use lib.Seq.{get_or-set_same, get_or-set_other, length-take-le}
-use Rattle.std.proofs.lemmas.List.{get_or-append-add, get_or-replicate, length-replicate}
+use Rattle.std.proofs.lemmas.List.{drop_all, drop_more, get_or-append-add, get_or-replicate, length-replicate}
 use borrow.Author.Tests.{eqb-true, eqb-false, eq-eqb, ne_eqb}
 use Rattle.octets.proofs.GroupLaws.{length_groups}
 use Rattle.model.specs.Site.{records}
 use Rattle.index.specs.Index.{most_records, buckets, kind_classes, index_size, chain_scale, bucket_of, mark_of, tags_of, chain_from, kind_class, next_in, head, kind_head, kind_last, link, IndexedFrom}
-use Rattle.index.proofs.Walks.{left_turn, left_end, next_high, next_turn, next_end}
+use Rattle.index.proofs.Walks.{next_high, next_turn, next_end}
 
 -- There are as many records as whole groups of 32 bytes.
 pub length_records : (site : List ℕ) → length (records site) ≡ length site / 32
@@ -40,7 +40,7 @@ filled n k index heads rest size e f b h =
 -- A chain ends at the number of records. The i-th record is put before its own chain, and passed over by the others.
 chain_end : (b : ℕ) (ss : List (List ℕ)) → chain_from b (length ss) ss ≡ length ss
 unfolding tags_of
-chain_end b ss = rw (next_end bucket_of b (length ss) ss (omega arith), left_end ss (length ss) (omega arith)) (omega arith)
+chain_end b ss = rw (next_end bucket_of b (length ss) ss (omega arith), drop_all (length ss) ss (omega arith)) (omega arith)
 
 module _ (i : ℕ) (ss : List (List ℕ)) (h : i < length ss) where
   next_own : (class : List ℕ → ℕ) (c : ℕ) → class (get_or ss i []) ≡ c → next_in class c i ss ≡ i
@@ -54,11 +54,11 @@ module _ (i : ℕ) (ss : List (List ℕ)) (h : i < length ss) where
   unfolding tags_of
   chain_own b chain few e q =
       let t : chain / chain_scale ≡ tags_of b (drop (i + 1) ss) = omega (arith, next_high bucket_of b (i + 1) ss (omega arith)) in
-      rw (next_own bucket_of b e, left_turn ss i h, eq-eqb (bucket_of (get_or ss i [])) b e, t)
+      rw (next_own bucket_of b e, drop_more ss i [] h, eq-eqb (bucket_of (get_or ss i [])) b e, t)
 
   chain_other : (b : ℕ) → (bucket_of (get_or ss i []) ≡ b → ⊥) → chain_from b i ss ≡ chain_from b (i + 1) ss
   unfolding tags_of
-  chain_other b n = rw (next_other bucket_of b n, left_turn ss i h, ne_eqb (bucket_of (get_or ss i [])) b n)
+  chain_other b n = rw (next_other bucket_of b n, drop_more ss i [] h, ne_eqb (bucket_of (get_or ss i [])) b n)
 
 -- No record yet: every bucket and every class of kinds is empty.
 pub emptied : (ss : List (List ℕ)) (index : List ℕ) → length index ≡ index_size → length ss ≤ most_records → Emptied (length ss) index

@@ -13,12 +13,12 @@ use native.Mathlib.Omega.{arith}
 use lib.Dec.{ltb}
 use lib.ListN.{length, take, drop, get_or, length-drop}
 use lib.Seq.{drop-drop, length-take-le}
-use Rattle.std.proofs.lemmas.List.{take-append-drop}
+use Rattle.std.proofs.lemmas.List.{drop_all, drop_more, take-append-drop}
 use borrow.Author.Tests.{ltb-true, ltb-false}
 use Rattle.model.specs.Site.{kind}
 use Rattle.index.specs.Index.{kind_classes, bucket_of, record_of, ChainFrom, kind_class, next_in, OfBucket}
 use Rattle.index.specs.Place.{place_from}
-use Rattle.index.proofs.Walks.{left_turn, left_end, next_high, next_end, next_again, past, onward, onward_chain, chain_record, chain_at}
+use Rattle.index.proofs.Walks.{next_high, next_end, next_again, past, onward, onward_chain, chain_record, chain_at}
 
 -- From where the last of a class was passed on there is none, nor where there is none at all.
 class_ends : (c last end : ℕ) (ss : List (List ℕ)) → (next_in kind_class c 0 ss < length ss → next_in kind_class c last ss ≡ length ss)
@@ -43,11 +43,11 @@ module _ (q : List ℕ → Bool) where
   -- The record at i passes, or there is none.
   pub place_here : (ss : List (List ℕ)) (i : ℕ) → i < length ss → q (get_or ss i []) ≡ true → place_from q i (drop i ss) ≡ Some i
   unfolding place_from
-  place_here ss i h t = rw (left_turn ss i h, t)
+  place_here ss i h t = rw (drop_more ss i [] h, t)
 
   pub place_end : (ss : List (List ℕ)) (i : ℕ) → length ss ≤ i → place_from q i (drop i ss) ≡ None
   unfolding place_from
-  place_end ss i h = rw (left_end ss i h)
+  place_end ss i h = rw (drop_all i ss h)
 
   -- Where the first record is counted as k, the place is k more.
   place_more : (k j : ℕ) (ss : List (List ℕ)) → place_from q (k + j) ss ≡ option_map (λ i. k + i) (place_from q j ss)

@@ -1,4 +1,4 @@
--- The records of a class, such as a bucket or a kind, from a number on; the chains of an index; what is left from the i-th record on.
+-- The records of a class, such as a bucket or a kind, from a number on; the chains of an index; walks over what is left from the i-th record on.
 use Rattle.std.specs.Prelude.{if◌then◌else◌}
 use Prim.Native.Nat.{ℕ, zero, suc, ◌+◌, ◌-◌, ◌/◌, ◌≤◌, ◌<◌}
 use mathlib.Core.Path.{◌≡◌, refl, sym, ◌∙◌}
@@ -8,19 +8,12 @@ use native.Mathlib.Nat.{add-zero}
 use native.Mathlib.Numerals.{add-one}
 use native.Mathlib.Omega.{arith}
 use lib.Dec.{eqb, ltb}
-use lib.ListN.{length, drop, get_or, drop_of_length-le, length-drop}
+use lib.ListN.{length, drop, get_or, length-drop}
 use lib.Seq.{drop-cons, drop-drop, get_or-drop}
+use Rattle.std.proofs.lemmas.List.{drop_all}
 use borrow.Author.Tests.{eqb-true, eqb-false, ltb-true, ltb-false}
 use Rattle.model.specs.Site.{kind}
 use Rattle.index.specs.Index.{buckets, bucket_of, tags_of, chain_scale, record_of, first_from, next_in, head, link, after, ChainFrom, IndexedFrom}
-
--- What is left from the i-th record on: that record, and what is left from the next one on; past the last, nothing.
-module _ (ss : List (List ℕ)) (i : ℕ) where
-  pub left_turn : i < length ss → drop i ss ≡ get_or ss i [] ∷ drop (i + 1) ss
-  left_turn h = rw (add-one i, drop-cons ss i [] h)
-
-  pub left_end : length ss ≤ i → drop i ss ≡ []
-  left_end h = drop_of_length-le ss h
 
 -- Records by a class, such as their bucket or their kind.
 module _ (class : List ℕ → ℕ) where
@@ -67,7 +60,7 @@ module _ (class : List ℕ → ℕ) where
 
     pub next_end : length ss ≤ i → next_in class c i ss ≡ i
     unfolding next_in first_from
-    next_end h = rw (left_end ss i h)
+    next_end h = rw (drop_all i ss h)
 
   -- What is next from the k-th on is next from all up to it.
   pub next_again : (c k : ℕ) (ss : List (List ℕ)) (d : ℕ) → k + d ≤ next_in class c k ss → next_in class c (k + d) ss ≡ next_in class c k ss

@@ -1,4 +1,5 @@
-// The buckets into which records fall, and the classes of rules, each of a bucket and a tag. Of either its number is seen, which is in range by its type.
+// The buckets into which records fall, and the classes of rules, each of a bucket and a tag. A contract sees the number of either; its type keeps that in
+// range.
 ghost use Rattle.std.specs.Prelude.{◌≡◌, ◌/◌, ◌%◌, ◌<◌};
 ghost use Rattle.index.specs.Index.{buckets, tags, rule_class_count};
 
@@ -30,8 +31,8 @@ impl Model for Bucket {
 }
 
 impl Bucket {
-    // The bucket of a number, any of which is taken around.
-    pub(crate) fn of(number: usize) -> Bucket
+    // The bucket of any number.
+    pub fn of(number: usize) -> Bucket
         ensures { result ≡ number % buckets }
     {
         Bucket {
@@ -39,7 +40,7 @@ impl Bucket {
         }
     }
 
-    pub(crate) fn number(self) -> usize
+    pub fn number(self) -> usize
         ensures { (result ≡ self) × (result < buckets) }
     {
         self.number
@@ -65,7 +66,8 @@ impl Model for Class {
 }
 
 impl Class {
-    pub(crate) fn of(number: usize) -> Class
+    // The class of any number.
+    pub fn of(number: usize) -> Class
         ensures { result ≡ number % rule_class_count }
     {
         Class {

@@ -1,18 +1,20 @@
 -- The outcome of an entry on bytes, with the places of its records: form, object, then the operation.
-use Rattle.std.specs.Prelude.{ℕ, List, not, if◌then◌else◌, Option, Some, None}
+use Rattle.std.specs.Prelude.{ℕ, List, not, if◌then◌else◌, Option, Some, None, Result, Ok, Err}
 use Rattle.model.specs.Numbers as n
 use Rattle.model.specs.Site.{point_id, records, point_of}
 use Rattle.model.specs.State.{count, point_state_of, credential_state_of}
 use Rattle.model.specs.Entry.{operation_of, in_form}
 use Rattle.model.specs.Checks.{verdict, event_of}
 use Rattle.model.specs.Effects.{outcome_of}
-use Rattle.model.specs.Step.{no_answer, unchanged, refuse, count_outcome, adjust_outcome, disable_outcome, service_outcome}
+use Rattle.model.specs.Step.{no_answer, unchanged, refused_number, refuse, count_outcome, adjust_outcome, disable_outcome, service_outcome}
 use Rattle.journal.specs.Places.{part_at, object_place}
 use Rattle.journal.specs.Gather.{gathered, count_to}
 use Rattle.model.specs.declared.Situation.{Situation}
 use Rattle.model.specs.declared.Verdict.{Verdict}
 use Rattle.model.specs.declared.Entry.{Entry}
 use Rattle.model.specs.declared.Outcome.{Outcome}
+use Rattle.model.specs.declared.EntryRefusal.{EntryRefusal}
+use Rattle.model.specs.declared.EntryRefusal.TheVariants.{Form, NoObject}
 use Rattle.model.specs.declared.Operation.{Operation}
 use Rattle.model.specs.declared.Operation.TheVariants.{Factor, SetCount, AdjustCount, SetDisable, SetService}
 use Rattle.journal.specs.declared.Places.{Places}
@@ -33,6 +35,15 @@ object_places place = record { point = place; credential = place; zone_to = plac
 
 abbrev pub at_object : Outcome → Option ℕ → Decided
 at_object o place = record { outcome = o; places = object_places place }
+
+-- An entry that is refused writes nothing.
+abbrev pub refused_as : EntryRefusal → Decided
+refused_as r = at_object (refuse (refused_number r)) None
+
+-- What is decided of an entry, or why it is refused.
+abbrev pub or_refused : Result Decided EntryRefusal → Decided
+or_refused (Ok d) = d
+or_refused (Err r) = refused_as r
 
 -- A factor read at the point that stands at a place, in service.
 unfoldable pub served_at : Option ℕ → Entry → List ℕ → List ℕ → Decided
@@ -63,12 +74,12 @@ worked_at None place e site state = at_object (refuse n.refused_form) place
 -- The same, or refusal 8 where there is no object.
 abbrev pub found_at : Option Operation → Option ℕ → Entry → List ℕ → List ℕ → Decided
 found_at o (Some j) e site state = worked_at o (Some j) e site state
-found_at o None e site state = at_object (refuse n.refused_no_object) None
+found_at o None e site state = refused_as NoObject
 
 -- An entry: refusal 7 where it has not the form, then its object.
 unfoldable pub decided_as : Option Operation → Entry → List ℕ → List ℕ → Decided
 decided_as o e site state =
-    if not (in_form o e) then at_object (refuse n.refused_form) None
+    if not (in_form o e) then refused_as Form
     else found_at o (object_place o e.instance site) e site state
 
 unfoldable pub decided_on : List ℕ → List ℕ → Entry → Decided

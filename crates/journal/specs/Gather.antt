@@ -1,20 +1,14 @@
 -- What is gathered for a factor read at the point that stands at a place.
-use Rattle.std.specs.Prelude.{ℕ, List, Option, if◌then◌else◌}
-use Rattle.model.specs.Words.{missing}
-use Rattle.model.specs.Numbers.{NONE, access_zone, access_credential}
-use Rattle.model.specs.Site.{credential_id, instance, records, zone_of, point_of, credential_of}
+use Rattle.std.specs.Prelude.{ℕ, List, Option}
+use Rattle.model.specs.Numbers.{access_zone, access_credential}
+use Rattle.model.specs.Site.{records, zone_of, point_of, credential_of}
 use Rattle.model.specs.State.{count, point_state_of, credential_state_of}
 use Rattle.model.specs.Checks.{factor_for, credential_read}
 use Rattle.model.specs.Step.{disable_of}
 use Rattle.journal.specs.Places.{part_at, seek_place}
 use Rattle.model.specs.declared.CredentialId.{CredentialId}
 use Rattle.model.specs.declared.Entry.{Entry}
-use Rattle.journal.specs.declared.gather.Factor.{Factor}
 use Rattle.journal.specs.declared.Gathered.{Gathered}
-
--- What is read of a factor.
-unfoldable pub factor_of : List ℕ → Factor
-factor_of s = record { credential = credential_id (if missing s then NONE else instance s); disable = disable_of s }
 
 -- The credential that the point waits for.
 unfoldable pub waiting_at : Option ℕ → List ℕ → CredentialId

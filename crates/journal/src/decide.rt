@@ -6,7 +6,7 @@ ghost use Rattle.model.specs.Checks.{event_of};
 ghost use Rattle.checks.specs.Moves.{before_permission};
 ghost use Rattle.journal.specs.Decide.{rules_of, read_outcome};
 
-use effects::outcome;
+use effects::{Event, outcome};
 use index::IndexedSite;
 use model::{Entry, Outcome, PointId, Situation, Verdict};
 use rules::Asked;
@@ -36,5 +36,9 @@ pub fn decide(site: &IndexedSite, v: Situation, e: Entry) -> Outcome
 {
     let before = checks::before_permission(v, e);
     let rules = rules_for(site, v, e, before);
-    outcome::factor_outcome(v, e, checks::event_after(v, rules, e, before))
+    let event = Event {
+        v,
+        x: checks::event_after(v, rules, e, before),
+    };
+    outcome::factor_outcome(event, e)
 }

@@ -1,18 +1,21 @@
 // The records that a factor read looks at: each is looked up once, and its place kept for what is written.
-ghost use Rattle.std.specs.Prelude.{◌≡◌, ℕ, List};
+ghost use Rattle.std.specs.Prelude.{◌≡◌, ℕ, List, [], unwrap_or, option_copied};
 ghost use Rattle.model.specs.Site.{records, find_in};
 ghost use Rattle.model.specs.State.{count};
 ghost use Rattle.model.specs.Checks.{factor_for, credential_read};
+ghost use Rattle.model.specs.Step.{disable_of};
 ghost use Rattle.site.specs.Factor.{fits};
 ghost use Rattle.journal.specs.Places.{part_at, seek_place};
-ghost use Rattle.journal.specs.Gather.{to_at, factor_of, gathered};
+ghost use Rattle.journal.specs.Gather.{to_at, gathered};
 
 use super::object::{part_at, read_at};
 use super::{Gathered, Places};
 use index::IndexedSite;
 use model::numbers::NONE;
 use model::{CredentialId, Entry, Point, PointState, Situation};
-use records::{FromRecord, Record};
+use records::Record;
+use records::site::{factor_disable_of, instance_of, zone_to_of};
+use records::state::count_of;
 use site::object::Placed;
 use site::{Presented, indexed};
 
@@ -28,11 +31,10 @@ fn seek<O: Placed>(site: &IndexedSite, object: O) -> Option<usize>
 }
 
 // A zone's count, or 0 where there is no zone.
-#[tactic(auto, unfolding(model::specs::State::count, octets::specs::Octets::field))]
 pub(crate) fn count_at(state: &[u8], place: Option<usize>) -> u32
     ensures { result ≡ count (part_at place state.now) }
 {
-    part_at(state, place).map_or(0, |part| records::state::count_of(part))
+    count_of(part_at(state, place))
 }
 
 // The place of the Zone_To of the point that stands at a place.
@@ -40,35 +42,7 @@ pub(crate) fn count_at(state: &[u8], place: Option<usize>) -> u32
 pub fn zone_to_at(site: &IndexedSite, place: Option<usize>) -> Option<usize>
     ensures { result ≡ to_at place site.now }
 {
-    let point: Point = read_at(site.bytes(), place);
-    seek(site, point.zone_to)
-}
-
-// What is read of a factor: its credential and its disable.
-#[derive(Clone, Copy)]
-struct Factor {
-    credential: CredentialId,
-    disable: Option<u8>,
-}
-
-impl FromRecord for Factor {
-    ghost of_record = { factor_of };
-
-    #[tactic(auto, unfolding(crate::specs::Gather::factor_of))]
-    fn from_record(part: &Record) -> Factor {
-        Factor {
-            credential: CredentialId(records::site::instance_of(part)),
-            disable: Some(records::site::factor_disable_of(part)),
-        }
-    }
-
-    #[tactic(auto, unfolding(crate::specs::Gather::factor_of))]
-    fn missing() -> Factor {
-        Factor {
-            credential: CredentialId::NONE,
-            disable: None,
-        }
-    }
+    seek(site, zone_to_of(part_at(site.bytes(), place)))
 }
 
 // What is presented at a point that waits for a credential or for nobody.
@@ -85,28 +59,32 @@ fn presented(waiting: CredentialId, e: Entry) -> Presented
 }
 
 // The factor that was read there.
-fn factor_for(site: &IndexedSite, waiting: CredentialId, e: Entry) -> Factor
-    ensures { result ≡ factor_of (factor_for waiting e (records site.now)) }
+fn factor_for<'s>(site: &IndexedSite<'s, '_>, waiting: CredentialId, e: Entry) -> Option<&'s Record>
+    ensures { unwrap_or (option_copied result) [] ≡ factor_for waiting e (records site.now) }
 {
-    match indexed::find_factor(site, presented(waiting, e)) {
-        Some(part) => Factor::from_record(part),
-        None => Factor::missing(),
-    }
+    indexed::find_factor(site, presented(waiting, e))
 }
 
 // The credential waited for, else that of the factor, else NONE.
-#[tactic(auto, unfolding(model::specs::Checks::credential_read, crate::specs::Gather::factor_of))]
-fn credential_read(waiting: CredentialId, factor: Factor) -> CredentialId
-    ensures { (s : List ℕ) → factor ≡ factor_of s → result ≡ credential_read waiting s }
+#[tactic(auto, unfolding(model::specs::Checks::credential_read))]
+fn credential_read(waiting: CredentialId, factor: Option<&Record>) -> CredentialId
+    ensures { result ≡ credential_read waiting (unwrap_or (option_copied factor) []) }
 {
     if waiting != CredentialId::NONE {
         return waiting;
     }
-    factor.credential
+    factor.map_or(CredentialId::NONE, |part| CredentialId(instance_of(part)))
+}
+
+// The disable of a factor, where there is one.
+fn disable_of(factor: Option<&Record>) -> Option<u8>
+    ensures { result ≡ disable_of (unwrap_or (option_copied factor) []) }
+{
+    factor.map(|part| factor_disable_of(part))
 }
 
 // The situation of a factor read at the point that stands at a place.
-#[tactic(auto, unfolding(crate::specs::Gather::gathered, crate::specs::Gather::waiting_at, crate::specs::Gather::factor_at, crate::specs::Gather::number_at, crate::specs::Gather::to_at, crate::specs::Gather::from_at, crate::specs::Gather::held_at, crate::specs::Gather::factor_of))]
+#[tactic(auto, unfolding(crate::specs::Gather::gathered, crate::specs::Gather::waiting_at, crate::specs::Gather::factor_at, crate::specs::Gather::number_at, crate::specs::Gather::to_at, crate::specs::Gather::from_at, crate::specs::Gather::held_at))]
 pub fn gather(site: &IndexedSite, state: &[u8], e: Entry, place: Option<usize>) -> Gathered
     ensures { result ≡ gathered place e site.now state.now }
 {
@@ -125,7 +103,7 @@ pub fn gather(site: &IndexedSite, state: &[u8], e: Entry, place: Option<usize>) 
         count_to: count_at(state, zone_to),
         zone_from: read_at(site.bytes(), zone_from),
         count_from: count_at(state, zone_from),
-        factor_disable: factor.disable,
+        factor_disable: disable_of(factor),
         number,
         credential: read_at(site.bytes(), credential),
         credential_state: read_at(state, credential),

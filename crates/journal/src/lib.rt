@@ -1,5 +1,6 @@
 // A journal run over lent bytes. The way of an entry goes forward: its form and its object, the records that it looks at, gathered by value, its outcome,
-// and the records that it writes.
+// and the records that it writes. Site and state stay two parameters: in a contract, what a struct passed by value has lent is a part of its entry, and Rattle
+// copies no struct that has both a lifetime and a Model.
 #![tactic(auto)]
 
 pub mod object; // object.rt: where the object of an entry stands

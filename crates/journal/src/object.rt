@@ -1,27 +1,24 @@
 // Where the object of an entry stands, and the records there.
-ghost use Rattle.std.specs.Prelude.{◌≡◌, [], MatchOption};
+ghost use Rattle.std.specs.Prelude.{◌≡◌, [], unwrap_or, option_copied};
 ghost use Rattle.journal.specs.Places.{part_at, object_place};
 
 use index::IndexedSite;
 use model::{CredentialId, Operation, PointId, ZoneId};
-use records::{FromRecord, Record};
+use records::{FromPart, Record};
 use site::indexed;
 
 // The record at a place, where there is one.
 pub fn part_at(bytes: &[u8], place: Option<usize>) -> Option<&Record>
-    ensures { MatchOption result (part_at place bytes.now ≡ []) (λ part. part.now ≡ part_at place bytes.now) }
+    ensures { unwrap_or (option_copied result) [] ≡ part_at place bytes.now }
 {
     octets::groups(bytes).get(place?)
 }
 
 // What is read of the record at a place, or of none.
-pub(crate) fn read_at<R: FromRecord>(bytes: &[u8], place: Option<usize>) -> R
-    ensures { result ≡ R.of_record (part_at place bytes.now) }
+pub(crate) fn read_at<R: FromPart>(bytes: &[u8], place: Option<usize>) -> R
+    ensures { result ≡ R.of_part (part_at place bytes.now) }
 {
-    match part_at(bytes, place) {
-        Some(part) => R::from_record(part),
-        None => R::missing(),
-    }
+    R::from_part(part_at(bytes, place))
 }
 
 // The place of the object that an instance names under an operation; an unknown one names none.

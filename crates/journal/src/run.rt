@@ -1,5 +1,5 @@
 // All entries of a journal, in turn.
-ghost use Rattle.std.specs.Prelude.{◌≡◌, ◌*◌, ◌/◌, length};
+ghost use Rattle.std.specs.Prelude.{◌≡◌, ◌*◌, ◌/◌, ◌%◌, length};
 ghost use mathlib.Core.List.{map, flatten};
 ghost use Rattle.model.specs.State.{panel, state_of};
 ghost use Rattle.model.specs.Entry.{entry_of, entries, answer_bytes};
@@ -11,13 +11,12 @@ use index::IndexedSite;
 use records::entry::answer_bytes;
 
 pub fn run(site: &IndexedSite, state: &mut [u8], journal: &[u8], answers: &mut [u8])
+    requires site_len { length site.now % 32 ≡ 0 }
     requires state_len { length state.old ≡ length site.now }
     requires answers_len { length answers.old ≡ length journal.now / 24 * 16 }
     ensures state_after { state.new ≡ state_of (m.after (panel site.now state.old) (map entry_of (entries journal.now))) }
     ensures answers_after { answers.new ≡ flatten (map answer_bytes (m.answers (panel site.now state.old) (map entry_of (entries journal.now)))) }
 {
-    // The site is of whole records, and so is then the state.
-    let _ = site.bytes();
     for (k, e) in Entries::of(journal).enumerate() {
         let answer = step(site, state, e);
         octets::put_group(answers, k, &answer_bytes(answer));

@@ -1,11 +1,11 @@
 // One entry: its form, its object, what it looks at, its outcome; then its records are written.
-ghost use Rattle.std.specs.Prelude.{◌≡◌, Option, Some, length};
+ghost use Rattle.std.specs.Prelude.{◌≡◌, ◌%◌, Option, Some, length};
 ghost use Rattle.model.specs.Site.{point_of};
 ghost use Rattle.model.specs.State.{panel, state_of, point_state_of};
 ghost use Rattle.model.specs.Step.{service_outcome, entry_outcome, apply};
 ghost use Rattle.journal.specs.Places.{part_at};
 ghost use Rattle.journal.specs.Gather.{count_to};
-ghost use Rattle.journal.specs.Decide.{at_object, served_at, read_at, worked_at, decided_on};
+ghost use Rattle.journal.specs.Decide.{at_object, refused_as, or_refused, served_at, read_at, worked_at, decided_on};
 
 use super::apply::apply_outcome;
 use super::decide::decide;
@@ -15,7 +15,9 @@ use super::{Decided, Places};
 use effects::operations;
 use entries::form;
 use index::IndexedSite;
-use model::{Answer, Entry, Operation, Outcome, numbers};
+use model::{Answer, Entry, EntryRefusal, Operation, Outcome};
+use records::site::is_out_of_service;
+use records::state::tag_of;
 
 // An outcome that writes no record but that of the object.
 fn at_object(outcome: Outcome, place: Option<usize>) -> Decided
@@ -33,19 +35,17 @@ fn at_object(outcome: Outcome, place: Option<usize>) -> Decided
 }
 
 // Whether the point that stands at a place is out of service.
-#[tactic(auto, unfolding(model::specs::Site::point_of, model::specs::Site::flag, octets::specs::Octets::field))]
 fn is_out_of_service_at(site: &IndexedSite, place: Option<usize>) -> bool
     ensures { result ≡ (point_of (part_at place site.now)).out_of_service }
 {
-    part_at(site.bytes(), place).is_some_and(|part| records::site::is_out_of_service(part))
+    is_out_of_service(part_at(site.bytes(), place))
 }
 
 // The tag that it holds.
-#[tactic(auto, unfolding(model::specs::State::point_state_of, octets::specs::Octets::field))]
 fn tag_at(state: &[u8], place: Option<usize>) -> u32
     ensures { result ≡ (point_state_of (part_at place state.now)).tag }
 {
-    part_at(state, place).map_or(0, |part| records::state::tag_of(part))
+    tag_of(part_at(state, place))
 }
 
 // The count of its Zone_To.
@@ -116,29 +116,32 @@ fn worked(
 
 // The outcome of an entry, and where its records stand: refusals 7 and 8, then the operation.
 #[tactic(auto, unfolding(crate::specs::Decide::decided_as, crate::specs::Decide::decided_on, model::specs::Entry::in_form))]
-fn decided(site: &IndexedSite, state: &[u8], e: Entry) -> Decided
-    ensures { result ≡ decided_on site.now state.now e }
+fn decided(site: &IndexedSite, state: &[u8], e: Entry) -> Result<Decided, EntryRefusal>
+    ensures { or_refused result ≡ decided_on site.now state.now e }
 {
     let asked = form::operation_of(e.operation);
-    let Some(operation) = asked.filter(|_| form::in_form(asked, e)) else {
-        return at_object(operations::refuse(numbers::REFUSED_FORM), None);
-    };
-    let place = object_place(site, asked, e.instance);
-    if place.is_none() {
-        return at_object(operations::refuse(numbers::REFUSED_NO_OBJECT), None);
-    }
-    worked(site, state, operation, e, place)
+    let operation = asked
+        .filter(|_| form::in_form(asked, e))
+        .ok_or(EntryRefusal::Form)?;
+    let i = object_place(site, asked, e.instance).ok_or(EntryRefusal::NoObject)?;
+    Ok(worked(site, state, operation, e, Some(i)))
+}
+
+// An entry that is refused writes nothing.
+fn refused_as(r: EntryRefusal) -> Decided
+    ensures { result ≡ refused_as r }
+{
+    at_object(operations::refuse(r), None)
 }
 
 #[tactic(auto, using(crate::proofs::Decisions::decided_outcome, crate::proofs::Decisions::stepped))]
 pub fn step(site: &IndexedSite, state: &mut [u8], e: Entry) -> Answer
-    requires { length state.old ≡ length site.now }
+    requires site_len { length site.now % 32 ≡ 0 }
+    requires state_len { length state.old ≡ length site.now }
     ensures state_after { state.new ≡ state_of (apply (entry_outcome (panel site.now state.old) e) (panel site.now state.old)) }
     ensures answer { result ≡ (entry_outcome (panel site.now state.old) e).answer }
 {
-    // The site is of whole records, and so is then the state.
-    let _ = site.bytes();
-    let d = decided(site, state, e);
+    let d = decided(site, state, e).unwrap_or_else(refused_as);
     apply_outcome(state, d.outcome, d.places);
     d.outcome.answer
 }

@@ -1,6 +1,7 @@
 -- Laws of the panel: what a test keeps of it, what is found in it, what a write changes of it.
 use Rattle.std.specs.Prelude.{if◌then◌else◌, Option, Some, None}
 use Rattle.std.specs.Option.{IfSome}
+use Rattle.std.proofs.lemmas.Bool.{and_parts, or_parts}
 use Prim.Native.Nat.{ℕ}
 use mathlib.Core.Path.{◌≡◌, refl, sym, ◌∙◌}
 use mathlib.Core.List.{List, [], ◌∷◌}
@@ -23,20 +24,16 @@ if_holds Q true a b p q = p
 if_holds Q false a b p q = q
 
 pub and_left : (a b : Bool) → a && b ≡ true → a ≡ true
-and_left true b e = refl
-and_left false b e = e
+and_left a b e = (and_parts a b e).0
 
 pub and_right : (a b : Bool) → a && b ≡ true → b ≡ true
-and_right true b e = e
-and_right false b e = cc
+and_right a b e = (and_parts a b e).1
 
 pub or_left : (a b : Bool) → a || b ≡ false → a ≡ false
-or_left true b h = h
-or_left false b h = refl
+or_left a b e = (or_parts a b e).0
 
 pub or_right : (a b : Bool) → a || b ≡ false → b ≡ false
-or_right true b h = cc
-or_right false b h = h
+or_right a b e = (or_parts a b e).1
 
 -- A record of a kind and instance has that kind, and that instance.
 pub kind_at : (k i : ℕ) (s : List ℕ) → is_at k i s ≡ true → kind s ≡ k

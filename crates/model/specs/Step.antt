@@ -19,6 +19,8 @@ use Rattle.model.specs.declared.Write.{Write}
 use Rattle.model.specs.declared.Outcome.{Outcome}
 use Rattle.model.specs.declared.PointState.{PointState}
 use Rattle.model.specs.declared.CredentialState.{CredentialState}
+use Rattle.model.specs.declared.EntryRefusal.{EntryRefusal}
+use Rattle.model.specs.declared.EntryRefusal.TheVariants.{Form, NoObject, Count}
 use Rattle.model.specs.declared.Operation.{Operation}
 use Rattle.model.specs.declared.Operation.TheVariants.{Factor, SetCount, AdjustCount, SetDisable, SetService}
 
@@ -32,6 +34,12 @@ no_answer refusal tag counted =
 -- "nothing changes".
 unfoldable pub unchanged : Answer → Outcome
 unchanged a = record { answer = a; point = None; credential = None; zone_to = None; zone_from = None }
+
+-- "7, in an answer", "8, in an answer", "9, in an answer": the number of each refusal of an entry.
+abbrev pub refused_number : EntryRefusal → ℕ
+refused_number Form = n.refused_form
+refused_number NoObject = n.refused_no_object
+refused_number Count = n.refused_count
 
 -- "A refusing answer is zero but for byte 3 and credential NONE."
 unfoldable pub refuse : ℕ → Outcome

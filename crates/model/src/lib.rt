@@ -7,7 +7,8 @@ pub mod layout; // layout.rt: where the fields of records, entries and answers s
 
 use numbers::NONE;
 
-// Instances are numbered per object type, so that zone 7 is never credential 7: a number of each type is a type of its own.
+// Instances are numbered per object type, so that zone 7 is never credential 7: a number of each type is a type of its own, with its NONE. One type by kind
+// would name the kind at each use and be no plainer.
 #[derive(Clone, Copy, PartialEq, Eq)]
 pub struct ZoneId(pub u32);
 
@@ -153,7 +154,7 @@ pub struct Answer {
 }
 
 // All that the order of checks looks at, but for the rules: the point, its zones, the disable of the factor that was read, where one matched, and its
-// credential.
+// credential. The entry stays beside it, as in the definitions: many functions ask of the situation alone.
 #[derive(Clone, Copy)]
 pub struct Situation {
     pub point: Point,
@@ -232,7 +233,15 @@ pub struct Outcome {
     pub zone_from: Option<Write<ZoneId, u32>>,
 }
 
-// Why a call turns its input back. The number of each is that of document 01; 7 to 9 refuse an entry.
+// Why an entry is refused in its own answer, each by its number of document 01.
+#[derive(Clone, Copy, PartialEq, Eq)]
+pub enum EntryRefusal {
+    Form = 7,
+    NoObject = 8,
+    Count = 9,
+}
+
+// Why a call turns its input back, each by its number of document 01.
 #[derive(Clone, Copy, PartialEq, Eq)]
 pub enum Refusal {
     SiteLength = 1,

@@ -1,4 +1,6 @@
 // The numbers of document 01, by the names that BACnet (source 002) gives them; the engine uses most of them. The definitions' are in specs/Numbers.antt.
+// They stay numbers, and are no enums or Options: a byte of a record or an entry holds any of 256 until it is checked, the definitions and contracts speak
+// of the number that stands there, and the macros of the C header are made of these lines.
 
 // No instance; a time that never was, or the end of time; no limit of uses, days or absentee days.
 pub const NONE: u32 = 4194303;
@@ -202,10 +204,3 @@ pub const LARGEST_DISABLE: u8 = 3;
 pub const ARGUMENT_UNLOCK: u8 = 0;
 
 pub const ARGUMENT_LOCK: u8 = 1;
-
-// Refusals in an answer.
-pub const REFUSED_FORM: u8 = 7;
-
-pub const REFUSED_NO_OBJECT: u8 = 8;
-
-pub const REFUSED_COUNT: u8 = 9;

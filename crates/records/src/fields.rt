@@ -1,27 +1,44 @@
-// The numbers at the offsets of a record.
-ghost use Rattle.std.specs.Prelude.{◌≡◌, ◌+◌, ◌≤◌, ◌<◌};
-ghost use Rattle.octets.specs.Octets.{field};
+// The numbers at the offsets of a record, or of none.
+ghost use Rattle.std.specs.Prelude.{◌≡◌, ◌<◌, [], unwrap_or, option_copied};
 ghost use Rattle.model.specs.Words.{bit};
-ghost use Rattle.model.specs.Site.{flag, reference};
+ghost use Rattle.model.specs.Site.{flag};
 
-use super::Record;
+use super::{Part, Record};
 use model::layout::FLAGS;
+use model::numbers::{NONE, RECORD_SIZE};
 use octets::Number;
 
-pub fn number_at<N: Number>(part: &Record, at: usize) -> N
-    requires { at + N.width ≤ 32 }
-    ensures { N.number result ≡ field at N.width part.now }
-{
-    N::get(part, at)
+impl Part for &Record {
+    ghost bytes = { λ part. part.now };
+
+    fn number_at<N: Number>(self, at: usize) -> N {
+        N::get(self, at)
+    }
+
+    #[tactic(auto, using(crate::proofs::Laws::reference_found))]
+    fn reference_at(self, at: usize) -> u32 {
+        self.number_at(at)
+    }
 }
 
-// The number of an object that a record names.
-#[tactic(auto, using(crate::proofs::Laws::reference_found))]
-pub fn reference_at(part: &Record, at: usize) -> u32
-    requires { at + 4 ≤ 32 }
-    ensures { result ≡ reference at part.now }
-{
-    number_at(part, at)
+impl Part for Option<&Record> {
+    ghost bytes = { λ part. unwrap_or (option_copied part) [] };
+
+    #[tactic(auto, using(crate::proofs::Laws::field_zeros))]
+    fn number_at<N: Number>(self, at: usize) -> N {
+        match self {
+            Some(part) => part.number_at(at),
+            None => N::get(&[0; RECORD_SIZE], at),
+        }
+    }
+
+    #[tactic(auto, unfolding(model::specs::Site::reference))]
+    fn reference_at(self, at: usize) -> u32 {
+        match self {
+            Some(part) => part.reference_at(at),
+            None => NONE,
+        }
+    }
 }
 
 // Bit i of a byte, bit 0 the lowest.
@@ -33,9 +50,9 @@ pub fn bit_of(byte: u8, i: u8) -> bool
 }
 
 // Flag i of a site record.
-pub fn flag_of(part: &Record, i: u8) -> bool
+pub fn flag_of<P: Part>(part: P, i: u8) -> bool
     requires { i < 8 }
-    ensures { result ≡ flag part.now i }
+    ensures { result ≡ flag (P.bytes part) i }
 {
-    bit_of(number_at(part, FLAGS), i)
+    bit_of(part.number_at(FLAGS), i)
 }

@@ -1,27 +1,41 @@
 // Site and state records, entries and answers between bytes and structs by value: each field is read by one function and written by one.
 #![tactic(auto)]
 
-ghost use Rattle.std.specs.Prelude.{◌≡◌, ℕ, List, []};
+ghost use Rattle.std.specs.Prelude.{◌≡◌, ◌+◌, ◌≤◌, ℕ, List};
+ghost use Rattle.octets.specs.Octets.{field};
+ghost use Rattle.model.specs.Site.{reference};
 
-pub mod fields; // fields.rt: the numbers at the offsets of a record
+pub mod fields; // fields.rt: the numbers at the offsets of a record, or of none
 pub mod site; // site.rt: the fields of site records
 pub mod state; // state.rt: the fields of state records, fresh ones, and their bytes
 pub mod entry; // entry.rt: entries and answers
 
 use model::numbers::RECORD_SIZE;
+use octets::Number;
 
 // The bytes of a record.
 pub type Record = [u8; RECORD_SIZE];
 
-// What is read of a record, and of a record that is not there: it reads as zeros and names nothing.
-pub trait FromRecord: Copy {
-    ghost of_record: { List ℕ → Self };
+// A record, or none: none reads as zeros and names nothing.
+pub trait Part: Copy {
+    ghost bytes: { Self → List ℕ };
 
-    fn from_record(part: &Record) -> Self
-        ensures { result ≡ of_record part.now };
+    fn number_at<N: Number>(self, at: usize) -> N
+        requires { at + N.width ≤ 32 }
+        ensures { N.number result ≡ field at N.width (bytes self) };
 
-    fn missing() -> Self
-        ensures { result ≡ of_record [] };
+    // The number of an object that the record names.
+    fn reference_at(self, at: usize) -> u32
+        requires { at + 4 ≤ 32 }
+        ensures { result ≡ reference at (bytes self) };
+}
+
+// What is read of a record, or of none.
+pub trait FromPart: Copy {
+    ghost of_part: { List ℕ → Self };
+
+    fn from_part<P: Part>(part: P) -> Self
+        ensures { result ≡ of_part (P.bytes part) };
 }
 
 // What a state record holds, as its bytes; what no field fills is zero.

@@ -5,21 +5,21 @@ ghost use Rattle.std.specs.Prelude.{◌≡◌};
 ghost use Rattle.model.specs.Site as Site;
 ghost use Rattle.model.specs.Site.{zone_of, point_of, credential_of};
 
-use super::fields::{flag_of, number_at, reference_at};
-use super::{FromRecord, Record};
+use super::fields::flag_of;
+use super::{FromPart, Part};
 use model::numbers::{
     ACCESS_CREDENTIAL, ACCESS_POINT, ACCESS_RULE, ACCESS_ZONE, AUTHENTICATION_FACTOR,
 };
 use model::{Credential, Point, RecordKind, RightsId, Zone, ZoneId, layout};
 
-pub fn kind_of(part: &Record) -> u8
-    ensures { result ≡ Site.kind part.now }
+pub fn kind_of<P: Part>(part: P) -> u8
+    ensures { result ≡ Site.kind (P.bytes part) }
 {
-    number_at(part, layout::KIND)
+    part.number_at(layout::KIND)
 }
 
-pub fn record_kind_of(part: &Record) -> Option<RecordKind>
-    ensures { result ≡ Site.record_kind part.now }
+pub fn record_kind_of<P: Part>(part: P) -> Option<RecordKind>
+    ensures { result ≡ Site.record_kind (P.bytes part) }
 {
     match kind_of(part) {
         ACCESS_ZONE => Some(RecordKind::OfZone),
@@ -31,90 +31,79 @@ pub fn record_kind_of(part: &Record) -> Option<RecordKind>
     }
 }
 
-pub fn flags_of(part: &Record) -> u8
-    ensures { result ≡ Site.flags part.now }
+pub fn flags_of<P: Part>(part: P) -> u8
+    ensures { result ≡ Site.flags (P.bytes part) }
 {
-    number_at(part, layout::FLAGS)
+    part.number_at(layout::FLAGS)
 }
 
 // The instance of a record: a factor's is its credential, a rule's its rights number.
-pub fn instance_of(part: &Record) -> u32
-    ensures { result ≡ Site.instance part.now }
+pub fn instance_of<P: Part>(part: P) -> u32
+    ensures { result ≡ Site.instance (P.bytes part) }
 {
-    number_at(part, layout::INSTANCE)
+    part.number_at(layout::INSTANCE)
 }
 
-impl FromRecord for Zone {
-    ghost of_record = { zone_of };
+impl FromPart for Zone {
+    ghost of_part = { zone_of };
 
-    fn from_record(part: &Record) -> Zone {
+    fn from_part<P: Part>(part: P) -> Zone {
         Zone {
             counting: flag_of(part, layout::ZONE_FLAG_COUNTING),
-            passback: number_at(part, layout::ZONE_PASSBACK),
-            upper_limit: number_at(part, layout::ZONE_UPPER_LIMIT),
-            lower_limit: number_at(part, layout::ZONE_LOWER_LIMIT),
-            passback_timeout: number_at(part, layout::ZONE_PASSBACK_TIMEOUT),
-        }
-    }
-
-    #[tactic(auto, unfolding(octets::specs::Octets::field, model::specs::Site::reference, model::specs::Site::zone_of))]
-    fn missing() -> Zone {
-        Zone {
-            counting: false,
-            passback: 0,
-            upper_limit: 0,
-            lower_limit: 0,
-            passback_timeout: 0,
+            passback: part.number_at(layout::ZONE_PASSBACK),
+            upper_limit: part.number_at(layout::ZONE_UPPER_LIMIT),
+            lower_limit: part.number_at(layout::ZONE_LOWER_LIMIT),
+            passback_timeout: part.number_at(layout::ZONE_PASSBACK_TIMEOUT),
         }
     }
 }
 
-pub fn is_out_of_service(part: &Record) -> bool
-    ensures { result ≡ (point_of part.now).out_of_service }
+pub fn is_out_of_service<P: Part>(part: P) -> bool
+    ensures { result ≡ (point_of (P.bytes part)).out_of_service }
 {
     flag_of(part, layout::POINT_FLAG_OUT_OF_SERVICE)
 }
 
-pub fn mode_of(part: &Record) -> u8
-    ensures { result ≡ (point_of part.now).mode }
+pub fn mode_of<P: Part>(part: P) -> u8
+    ensures { result ≡ (point_of (P.bytes part)).mode }
 {
-    number_at(part, layout::POINT_MODE)
+    part.number_at(layout::POINT_MODE)
 }
 
-pub fn factors_wanted_of(part: &Record) -> u8
-    ensures { result ≡ (point_of part.now).factors_wanted }
+pub fn factors_wanted_of<P: Part>(part: P) -> u8
+    ensures { result ≡ (point_of (P.bytes part)).factors_wanted }
 {
-    number_at(part, layout::POINT_FACTORS_WANTED)
+    part.number_at(layout::POINT_FACTORS_WANTED)
 }
 
-pub fn zone_to_of(part: &Record) -> ZoneId
-    ensures { result ≡ (point_of part.now).zone_to }
+pub fn zone_to_of<P: Part>(part: P) -> ZoneId
+    ensures { result ≡ (point_of (P.bytes part)).zone_to }
 {
-    ZoneId(reference_at(part, layout::POINT_ZONE_TO))
+    ZoneId(part.reference_at(layout::POINT_ZONE_TO))
 }
 
-pub fn zone_from_of(part: &Record) -> ZoneId
-    ensures { result ≡ (point_of part.now).zone_from }
+pub fn zone_from_of<P: Part>(part: P) -> ZoneId
+    ensures { result ≡ (point_of (P.bytes part)).zone_from }
 {
-    ZoneId(reference_at(part, layout::POINT_ZONE_FROM))
+    ZoneId(part.reference_at(layout::POINT_ZONE_FROM))
 }
 
-pub fn threat_level_of(part: &Record) -> u8
-    ensures { result ≡ (point_of part.now).threat_level }
+pub fn threat_level_of<P: Part>(part: P) -> u8
+    ensures { result ≡ (point_of (P.bytes part)).threat_level }
 {
-    number_at(part, layout::POINT_THREAT_LEVEL)
+    part.number_at(layout::POINT_THREAT_LEVEL)
 }
 
-pub fn most_failures_of(part: &Record) -> u8
-    ensures { result ≡ (point_of part.now).most_failures }
+pub fn most_failures_of<P: Part>(part: P) -> u8
+    ensures { result ≡ (point_of (P.bytes part)).most_failures }
 {
-    number_at(part, layout::POINT_MOST_FAILURES)
+    part.number_at(layout::POINT_MOST_FAILURES)
 }
 
-impl FromRecord for Point {
-    ghost of_record = { point_of };
+impl FromPart for Point {
+    ghost of_part = { point_of };
 
-    fn from_record(part: &Record) -> Point {
+    fn from_part<P: Part>(part: P) -> Point {
         Point {
             out_of_service: is_out_of_service(part),
             upper_enforced: flag_of(part, layout::POINT_FLAG_UPPER_ENFORCED),
@@ -127,61 +116,41 @@ impl FromRecord for Point {
             zone_from: zone_from_of(part),
             threat_level: threat_level_of(part),
             most_failures: most_failures_of(part),
-            factor_timeout: number_at(part, layout::POINT_FACTOR_TIMEOUT),
-            lockout_relinquish: number_at(part, layout::POINT_LOCKOUT_RELINQUISH),
-            failure_window: number_at(part, layout::POINT_FAILURE_WINDOW),
-        }
-    }
-
-    #[tactic(auto, unfolding(octets::specs::Octets::field, model::specs::Site::reference, model::specs::Site::point_of))]
-    fn missing() -> Point {
-        Point {
-            out_of_service: false,
-            upper_enforced: false,
-            lower_enforced: false,
-            count_adjust: false,
-            muster: false,
-            mode: 0,
-            factors_wanted: 0,
-            zone_to: ZoneId::NONE,
-            zone_from: ZoneId::NONE,
-            threat_level: 0,
-            most_failures: 0,
-            factor_timeout: 0,
-            lockout_relinquish: 0,
-            failure_window: 0,
+            factor_timeout: part.number_at(layout::POINT_FACTOR_TIMEOUT),
+            lockout_relinquish: part.number_at(layout::POINT_LOCKOUT_RELINQUISH),
+            failure_window: part.number_at(layout::POINT_FAILURE_WINDOW),
         }
     }
 }
 
-pub fn threat_authority_of(part: &Record) -> u8
-    ensures { result ≡ (credential_of part.now).threat_authority }
+pub fn threat_authority_of<P: Part>(part: P) -> u8
+    ensures { result ≡ (credential_of (P.bytes part)).threat_authority }
 {
-    number_at(part, layout::CREDENTIAL_THREAT_AUTHORITY)
+    part.number_at(layout::CREDENTIAL_THREAT_AUTHORITY)
 }
 
-pub fn first_rights_of(part: &Record) -> RightsId
-    ensures { result ≡ (credential_of part.now).first_rights }
+pub fn first_rights_of<P: Part>(part: P) -> RightsId
+    ensures { result ≡ (credential_of (P.bytes part)).first_rights }
 {
-    RightsId(reference_at(part, layout::CREDENTIAL_FIRST_RIGHTS))
+    RightsId(part.reference_at(layout::CREDENTIAL_FIRST_RIGHTS))
 }
 
-pub fn second_rights_of(part: &Record) -> RightsId
-    ensures { result ≡ (credential_of part.now).second_rights }
+pub fn second_rights_of<P: Part>(part: P) -> RightsId
+    ensures { result ≡ (credential_of (P.bytes part)).second_rights }
 {
-    RightsId(reference_at(part, layout::CREDENTIAL_SECOND_RIGHTS))
+    RightsId(part.reference_at(layout::CREDENTIAL_SECOND_RIGHTS))
 }
 
-pub fn most_wrong_tries_of(part: &Record) -> u8
-    ensures { result ≡ (credential_of part.now).most_wrong_tries }
+pub fn most_wrong_tries_of<P: Part>(part: P) -> u8
+    ensures { result ≡ (credential_of (P.bytes part)).most_wrong_tries }
 {
-    number_at(part, layout::CREDENTIAL_MOST_WRONG_TRIES)
+    part.number_at(layout::CREDENTIAL_MOST_WRONG_TRIES)
 }
 
-impl FromRecord for Credential {
-    ghost of_record = { credential_of };
+impl FromPart for Credential {
+    ghost of_part = { credential_of };
 
-    fn from_record(part: &Record) -> Credential {
+    fn from_part<P: Part>(part: P) -> Credential {
         Credential {
             master: flag_of(part, layout::CREDENTIAL_FLAG_MASTER),
             passback_exempt: flag_of(part, layout::CREDENTIAL_FLAG_PASSBACK_EXEMPT),
@@ -189,125 +158,107 @@ impl FromRecord for Credential {
             trace: flag_of(part, layout::CREDENTIAL_FLAG_TRACE),
             extended_time: flag_of(part, layout::CREDENTIAL_FLAG_EXTENDED_TIME),
             threat_authority: threat_authority_of(part),
-            activation: number_at(part, layout::CREDENTIAL_ACTIVATION),
-            expiry: number_at(part, layout::CREDENTIAL_EXPIRY),
-            absentee_days: number_at(part, layout::CREDENTIAL_ABSENTEE_DAYS),
+            activation: part.number_at(layout::CREDENTIAL_ACTIVATION),
+            expiry: part.number_at(layout::CREDENTIAL_EXPIRY),
+            absentee_days: part.number_at(layout::CREDENTIAL_ABSENTEE_DAYS),
             most_wrong_tries: most_wrong_tries_of(part),
             first_rights: first_rights_of(part),
             second_rights: second_rights_of(part),
         }
     }
-
-    #[tactic(auto, unfolding(octets::specs::Octets::field, model::specs::Site::reference, model::specs::Site::credential_of))]
-    fn missing() -> Credential {
-        Credential {
-            master: false,
-            passback_exempt: false,
-            occupancy_exempt: false,
-            trace: false,
-            extended_time: false,
-            threat_authority: 0,
-            activation: 0,
-            expiry: 0,
-            absentee_days: 0,
-            most_wrong_tries: 0,
-            first_rights: RightsId::NONE,
-            second_rights: RightsId::NONE,
-        }
-    }
 }
 
 // What a credential has when it is fresh.
-pub fn uses_given(part: &Record) -> u16
-    ensures { result ≡ Site.uses_given part.now }
+pub fn uses_given<P: Part>(part: P) -> u16
+    ensures { result ≡ Site.uses_given (P.bytes part) }
 {
-    number_at(part, layout::CREDENTIAL_USES)
+    part.number_at(layout::CREDENTIAL_USES)
 }
 
-pub fn days_given(part: &Record) -> u16
-    ensures { result ≡ Site.days_given part.now }
+pub fn days_given<P: Part>(part: P) -> u16
+    ensures { result ≡ Site.days_given (P.bytes part) }
 {
-    number_at(part, layout::CREDENTIAL_DAYS)
+    part.number_at(layout::CREDENTIAL_DAYS)
 }
 
-pub fn disable_given(part: &Record) -> u8
-    ensures { result ≡ Site.disable_given part.now }
+pub fn disable_given<P: Part>(part: P) -> u8
+    ensures { result ≡ Site.disable_given (P.bytes part) }
 {
-    number_at(part, layout::CREDENTIAL_DISABLE)
+    part.number_at(layout::CREDENTIAL_DISABLE)
 }
 
 // ── a rule
 
-pub fn is_enabled(part: &Record) -> bool
-    ensures { result ≡ Site.enabled part.now }
+pub fn is_enabled<P: Part>(part: P) -> bool
+    ensures { result ≡ Site.enabled (P.bytes part) }
 {
     flag_of(part, layout::RULE_FLAG_ENABLED)
 }
 
-pub fn is_negative(part: &Record) -> bool
-    ensures { result ≡ Site.negative part.now }
+pub fn is_negative<P: Part>(part: P) -> bool
+    ensures { result ≡ Site.negative (P.bytes part) }
 {
     flag_of(part, layout::RULE_FLAG_NEGATIVE)
 }
 
-pub fn is_always(part: &Record) -> bool
-    ensures { result ≡ Site.always part.now }
+pub fn is_always<P: Part>(part: P) -> bool
+    ensures { result ≡ Site.always (P.bytes part) }
 {
     flag_of(part, layout::RULE_FLAG_ALWAYS)
 }
 
-pub fn is_everywhere(part: &Record) -> bool
-    ensures { result ≡ Site.everywhere part.now }
+pub fn is_everywhere<P: Part>(part: P) -> bool
+    ensures { result ≡ Site.everywhere (P.bytes part) }
 {
     flag_of(part, layout::RULE_FLAG_EVERYWHERE)
 }
 
-pub fn location_kind_of(part: &Record) -> u8
-    ensures { result ≡ Site.location_kind part.now }
+pub fn location_kind_of<P: Part>(part: P) -> u8
+    ensures { result ≡ Site.location_kind (P.bytes part) }
 {
-    number_at(part, layout::RULE_LOCATION_KIND)
+    part.number_at(layout::RULE_LOCATION_KIND)
 }
 
-pub fn location_of(part: &Record) -> u32
-    ensures { result ≡ Site.location part.now }
+pub fn location_of<P: Part>(part: P) -> u32
+    ensures { result ≡ Site.location (P.bytes part) }
 {
-    number_at(part, layout::RULE_LOCATION)
+    part.number_at(layout::RULE_LOCATION)
 }
 
-pub fn weekdays_of(part: &Record) -> u8
-    ensures { result ≡ Site.weekdays part.now }
+pub fn weekdays_of<P: Part>(part: P) -> u8
+    ensures { result ≡ Site.weekdays (P.bytes part) }
 {
-    number_at(part, layout::RULE_DAYS)
+    part.number_at(layout::RULE_DAYS)
 }
 
-pub fn from_minute_of(part: &Record) -> u16
-    ensures { result ≡ Site.from_minute part.now }
+pub fn from_minute_of<P: Part>(part: P) -> u16
+    ensures { result ≡ Site.from_minute (P.bytes part) }
 {
-    number_at(part, layout::RULE_FROM)
+    part.number_at(layout::RULE_FROM)
 }
 
-pub fn to_minute_of(part: &Record) -> u16
-    ensures { result ≡ Site.to_minute part.now }
+pub fn to_minute_of<P: Part>(part: P) -> u16
+    ensures { result ≡ Site.to_minute (P.bytes part) }
 {
-    number_at(part, layout::RULE_TO)
+    part.number_at(layout::RULE_TO)
 }
 
 // ── a factor; its value is compared in its place
 
-pub fn role_of(part: &Record) -> u8
-    ensures { result ≡ Site.role part.now }
+pub fn role_of<P: Part>(part: P) -> u8
+    ensures { result ≡ Site.role (P.bytes part) }
 {
-    number_at(part, layout::FACTOR_ROLE)
+    part.number_at(layout::FACTOR_ROLE)
 }
 
-pub fn factor_disable_of(part: &Record) -> u8
-    ensures { result ≡ Site.factor_disable part.now }
+pub fn factor_disable_of<P: Part>(part: P) -> u8
+    ensures { result ≡ Site.factor_disable (P.bytes part) }
 {
-    number_at(part, layout::FACTOR_DISABLE)
+    part.number_at(layout::FACTOR_DISABLE)
 }
 
-pub fn format_of(part: &Record) -> u8
-    ensures { result ≡ Site.format part.now }
+pub fn format_of<P: Part>(part: P) -> u8
+    ensures { result ≡ Site.format (P.bytes part) }
 {
-    number_at(part, layout::FACTOR_FORMAT)
+    part.number_at(layout::FACTOR_FORMAT)
 }

@@ -5,112 +5,89 @@ ghost use Rattle.std.specs.Prelude.{◌≡◌};
 ghost use Rattle.model.specs.State as State;
 ghost use Rattle.model.specs.State.{zone_bytes, point_state_of, point_bytes, credential_state_of, credential_bytes, fresh_point, fresh_with};
 
-use super::fields::{number_at, reference_at};
-use super::{FromRecord, Record, ToRecord};
+use super::{FromPart, Part, Record, ToRecord};
 use model::numbers::{NEVER, RECORD_SIZE};
 use model::{CredentialId, CredentialState, PointId, PointState, ZoneId, layout};
 use octets::Number;
 
 // A zone's count.
-pub fn count_of(part: &Record) -> u32
-    ensures { result ≡ State.count part.now }
+pub fn count_of<P: Part>(part: P) -> u32
+    ensures { result ≡ State.count (P.bytes part) }
 {
-    number_at(part, layout::ZONE_STATE_COUNT)
+    part.number_at(layout::ZONE_STATE_COUNT)
 }
 
-pub fn tag_of(part: &Record) -> u32
-    ensures { result ≡ (point_state_of part.now).tag }
+pub fn tag_of<P: Part>(part: P) -> u32
+    ensures { result ≡ (point_state_of (P.bytes part)).tag }
 {
-    number_at(part, layout::POINT_STATE_TAG)
+    part.number_at(layout::POINT_STATE_TAG)
 }
 
 // The byte that says whether a point is locked.
-pub fn locked_byte_of(part: &Record) -> u8
-    ensures { result ≡ State.locked_byte part.now }
+pub fn locked_byte_of<P: Part>(part: P) -> u8
+    ensures { result ≡ State.locked_byte (P.bytes part) }
 {
-    number_at(part, layout::POINT_STATE_LOCKED)
+    part.number_at(layout::POINT_STATE_LOCKED)
 }
 
-impl FromRecord for PointState {
-    ghost of_record = { point_state_of };
+impl FromPart for PointState {
+    ghost of_part = { point_state_of };
 
-    fn from_record(part: &Record) -> PointState {
+    fn from_part<P: Part>(part: P) -> PointState {
         PointState {
             tag: tag_of(part),
-            failures: number_at(part, layout::POINT_STATE_FAILURES),
+            failures: part.number_at(layout::POINT_STATE_FAILURES),
             locked: locked_byte_of(part) == 1,
-            lock_time: number_at(part, layout::POINT_STATE_LOCK_TIME),
-            first_failure: number_at(part, layout::POINT_STATE_FIRST_FAILURE),
-            waiting_credential: CredentialId(reference_at(
-                part,
+            lock_time: part.number_at(layout::POINT_STATE_LOCK_TIME),
+            first_failure: part.number_at(layout::POINT_STATE_FIRST_FAILURE),
+            waiting_credential: CredentialId(part.reference_at(
                 layout::POINT_STATE_WAITING_CREDENTIAL,
             )),
-            waiting_since: number_at(part, layout::POINT_STATE_WAITING_SINCE),
+            waiting_since: part.number_at(layout::POINT_STATE_WAITING_SINCE),
         }
-    }
-
-    #[tactic(auto, unfolding(octets::specs::Octets::field, model::specs::Site::reference, model::specs::State::point_state_of, model::specs::State::fresh_point))]
-    fn missing() -> PointState {
-        fresh_point()
     }
 }
 
 // The fields of a credential's state that have a range, each by itself: the reader of the whole is not inlined where every record is checked.
-pub fn credential_disable_of(part: &Record) -> u8
-    ensures { result ≡ (credential_state_of part.now).disable }
+pub fn credential_disable_of<P: Part>(part: P) -> u8
+    ensures { result ≡ (credential_state_of (P.bytes part)).disable }
 {
-    number_at(part, layout::CREDENTIAL_STATE_DISABLE)
+    part.number_at(layout::CREDENTIAL_STATE_DISABLE)
 }
 
-pub fn credential_zone_of(part: &Record) -> ZoneId
-    ensures { result ≡ (credential_state_of part.now).zone }
+pub fn credential_zone_of<P: Part>(part: P) -> ZoneId
+    ensures { result ≡ (credential_state_of (P.bytes part)).zone }
 {
-    ZoneId(reference_at(part, layout::CREDENTIAL_STATE_ZONE))
+    ZoneId(part.reference_at(layout::CREDENTIAL_STATE_ZONE))
 }
 
-pub fn wrong_tries_of(part: &Record) -> u8
-    ensures { result ≡ (credential_state_of part.now).wrong_tries }
+pub fn wrong_tries_of<P: Part>(part: P) -> u8
+    ensures { result ≡ (credential_state_of (P.bytes part)).wrong_tries }
 {
-    number_at(part, layout::CREDENTIAL_STATE_WRONG_TRIES)
+    part.number_at(layout::CREDENTIAL_STATE_WRONG_TRIES)
 }
 
-pub fn last_point_of(part: &Record) -> PointId
-    ensures { result ≡ (credential_state_of part.now).last_point }
+pub fn last_point_of<P: Part>(part: P) -> PointId
+    ensures { result ≡ (credential_state_of (P.bytes part)).last_point }
 {
-    PointId(reference_at(part, layout::CREDENTIAL_STATE_LAST_POINT))
+    PointId(part.reference_at(layout::CREDENTIAL_STATE_LAST_POINT))
 }
 
-impl FromRecord for CredentialState {
-    ghost of_record = { credential_state_of };
+impl FromPart for CredentialState {
+    ghost of_part = { credential_state_of };
 
-    fn from_record(part: &Record) -> CredentialState {
+    fn from_part<P: Part>(part: P) -> CredentialState {
         CredentialState {
-            uses: number_at(part, layout::CREDENTIAL_STATE_USES),
-            days: number_at(part, layout::CREDENTIAL_STATE_DAYS),
-            last_use: number_at(part, layout::CREDENTIAL_STATE_LAST_USE),
+            uses: part.number_at(layout::CREDENTIAL_STATE_USES),
+            days: part.number_at(layout::CREDENTIAL_STATE_DAYS),
+            last_use: part.number_at(layout::CREDENTIAL_STATE_LAST_USE),
             zone: credential_zone_of(part),
-            entered: number_at(part, layout::CREDENTIAL_STATE_ENTERED),
-            last_event: number_at(part, layout::CREDENTIAL_STATE_LAST_EVENT),
+            entered: part.number_at(layout::CREDENTIAL_STATE_ENTERED),
+            last_event: part.number_at(layout::CREDENTIAL_STATE_LAST_EVENT),
             disable: credential_disable_of(part),
             wrong_tries: wrong_tries_of(part),
             last_point: last_point_of(part),
-            last_grant: number_at(part, layout::CREDENTIAL_STATE_LAST_GRANT),
-        }
-    }
-
-    #[tactic(auto, unfolding(octets::specs::Octets::field, model::specs::Site::reference, model::specs::State::credential_state_of))]
-    fn missing() -> CredentialState {
-        CredentialState {
-            uses: 0,
-            days: 0,
-            last_use: 0,
-            zone: ZoneId::NONE,
-            entered: 0,
-            last_event: 0,
-            disable: 0,
-            wrong_tries: 0,
-            last_point: PointId::NONE,
-            last_grant: 0,
+            last_grant: part.number_at(layout::CREDENTIAL_STATE_LAST_GRANT),
         }
     }
 }

@@ -8,6 +8,7 @@ use mathlib.Core.Bool.{Bool, true, false}
 use native.Mathlib.Omega.{arith}
 use lib.Dec.{eqb}
 use lib.ListN.{length, drop, get_or, length-drop}
+use Rattle.std.proofs.lemmas.List.{drop_more}
 use borrow.Author.Tests.{eqb-true}
 use Rattle.model.specs.Words.{keep, bit}
 use Rattle.model.specs.Numbers.{access_rule}
@@ -17,7 +18,7 @@ use Rattle.model.specs.declared.Verdict.{Verdict}
 use Rattle.model.proofs.Laws.{and_left, and_right}
 use Rattle.index.specs.Index.{chain_scale, tags, class_of_rule, bucket_of, in_class, record_of, ChainFrom}
 use Rattle.index.proofs.Tags.{some_left, none_left}
-use Rattle.index.proofs.Walks.{Chain, left_turn, onward, chain_record, chain_at}
+use Rattle.index.proofs.Walks.{Chain, onward_chain, chain_at}
 use Rattle.rules.specs.declared.Asked.{Asked}
 use Rattle.rules.specs.Walk.{findings, both, Gains}
 use Rattle.rules.proofs.Verdicts.{both_nothing, both_assoc, both_comm, found_none, found_first, found_at}
@@ -45,7 +46,7 @@ module _ (a : Asked) (c : ℕ) (ss : List (List ℕ)) where
   -- The record at i adds what it finds alone, whether it is of the class or not.
   adds : (v rest : Verdict) (i : ℕ) {u : Verdict} → i < length ss → u ≡ both v (findings a (get_or ss i [] ∷ [])) → carried a c v rest i (drop i ss) ≡ findings a ss
       → carried a c u rest (i + 1) (drop (i + 1) ss) ≡ findings a ss
-  adds v rest i h t e = rw t (go (in_class c s) (rw (left_turn ss i h) at e))
+  adds v rest i h t e = rw t (go (in_class c s) (rw (drop_more ss i [] h) at e))
     where
       s : List ℕ
       s = get_or ss i []
@@ -63,11 +64,8 @@ module _ (a : Asked) (c : ℕ) (ss : List (List ℕ)) where
   -- From the m-th record on the chain of the bucket decides.
   walk_on : (from v : Verdict) {m chain : ℕ} → m ≤ length ss → ChainFrom (c / tags) m ss chain
       → ((rest : Verdict) → carried a c from rest 0 ss ≡ findings a ss → carried a c v rest m (drop m ss) ≡ findings a ss) → ClassWalk a c ss from v chain
-  walk_on from v {m} l x e =
-      record {
-        at = chain_at x l;
-        left = λ rest p. rw (chain_record x l) (onward (carried a c v rest) (in_class c) (passes v rest) ss bucket_of (c / tags) has m (e rest p));
-      }
+  walk_on from v l x e =
+      record { at = chain_at x l; left = λ rest p. onward_chain (carried a c v rest) (in_class c) (passes v rest) ss (c / tags) has x l (e rest p) }
 
 module _ {a : Asked} {c : ℕ} {ss : List (List ℕ)} where
   pub walk_start : {v : Verdict} {chain : ℕ} → ChainFrom (c / tags) 0 ss chain → ClassWalk a c ss v v chain

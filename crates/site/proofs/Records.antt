@@ -16,7 +16,7 @@ use Rattle.model.specs.Accept.{real, rule_in_range, in_range_as, in_range, twins
 use Rattle.model.specs.declared.RecordKind.TheVariants.{OfRule}
 use Rattle.model.proofs.Laws.{and_left, and_right}
 use Rattle.model.proofs.Shifts.{rule_range, rule_location}
-use Rattle.index.proofs.Walks.{left_turn, left_end}
+use Rattle.std.proofs.lemmas.List.{drop_more, drop_all}
 
 -- What is missing has no bytes.
 pub no_bytes : (s : List ℕ) → eqb (length s) 0 ≡ missing s
@@ -53,12 +53,12 @@ module _ (q : List ℕ → Bool) where
 pub twice_turn : (ss : List (List ℕ)) (i : ℕ) → i < length ss
     → twice (drop i ss) ≡ any (twins (get_or ss i [])) (drop (i + 1) ss) || twice (drop (i + 1) ss)
 unfolding twice
-twice_turn ss i h = rw (left_turn ss i h)
+twice_turn ss i h = rw (drop_more ss i [] h)
 
 -- So it is where each of them in turn is tried.
 pub twice_of : (ss : List (List ℕ)) (n i : ℕ) → i + n ≡ length ss → list_any (λ j. any (twins (get_or ss j [])) (drop (j + 1) ss)) (range_with_len i n) ≡ twice (drop i ss)
 unfolding twice
-twice_of ss zero i e = rw (left_end ss i (omega arith))
+twice_of ss zero i e = rw (drop_all i ss (omega arith))
 twice_of ss (suc n) i e = rw (twice_turn ss i (omega arith), twice_of ss n (i + 1) (omega arith))
 
 -- A rule has no twin.

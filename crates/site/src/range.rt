@@ -9,7 +9,7 @@ use model::numbers::{
     TWO_FACTORS,
 };
 use model::{RecordKind, Zone, layout};
-use records::{FromRecord, Record, site};
+use records::{FromPart, Record, site};
 
 // Whether n bytes are zero.
 #[tactic(auto, using(crate::proofs::Clear::clear_all))]
@@ -24,7 +24,7 @@ pub fn is_clear(part: &[u8], at: usize, n: usize) -> bool
 fn zone_in_range(part: &Record) -> bool
     ensures { result ≡ zone_in_range part.now }
 {
-    let z = Zone::from_record(part);
+    let z = Zone::from_part(part);
     (site::flags_of(part) < layout::ZONE_FLAGS_END)
         & (z.passback <= PASSBACK_SOFT)
         & is_clear(part, layout::ZONE_SPARE_BYTE, 1)

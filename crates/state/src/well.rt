@@ -12,7 +12,7 @@ use records::site::{most_failures_of, most_wrong_tries_of, record_kind_of};
 use records::state::{
     credential_disable_of, credential_zone_of, last_point_of, locked_byte_of, wrong_tries_of,
 };
-use records::{FromRecord, Record};
+use records::{FromPart, Record};
 use site::indexed::none_or_exists;
 use site::range::is_clear;
 
@@ -35,7 +35,7 @@ fn is_below_most(count: u8, most: u8) -> bool
 fn point_well(site: &IndexedSite, s: &Record, t: &Record) -> bool
     ensures { result ≡ point_well (records site.now) s.now t.now }
 {
-    let p = PointState::from_record(t);
+    let p = PointState::from_part(t);
     (locked_byte_of(t) <= 1)
         & is_clear(
             t,

@@ -17,8 +17,8 @@ const HEAD: &str = "| Reader | Offset | Width | Definition |\n";
 /// The modules of crates/records that read fields.
 const MODULES: [&str; 3] = ["site", "state", "entry"];
 
-/// What reads a part at an offset that it is given, with the number of its bytes. `number_at` reads a
-/// number of the type that is wanted of it.
+/// What reads a part at an offset that it is given, with the number of its bytes. `number_at`, of the
+/// trait `Part`, reads a number of the type that is wanted of it.
 const PRIMITIVES: [(&str, usize); 5] = [
     ("reference_at", 4),
     ("eight", 8),
@@ -31,12 +31,12 @@ const GENERIC: &str = "number_at";
 /// Types of numbers, with the number of their bytes.
 const NUMBERS: [(&str, usize); 3] = [("u8", 1), ("u16", 2), ("u32", 4)];
 
-/// The parameters of a reader: the part, and nothing else.
-const PARTS: [&str; 2] = ["part: &Record", "part: &[u8; ENTRY_SIZE]"];
+/// The parameters of a reader: the part, and nothing else. A record, or none, is of a type `P: Part`.
+const PARTS: [&str; 2] = ["part: P", "part: &[u8; ENTRY_SIZE]"];
 
 /// What a struct is read by: the function of this name of an impl of this trait.
-const TRAIT: &str = "impl FromRecord for ";
-const READ_BY: &str = "    fn from_record(part: &Record) -> ";
+const TRAIT: &str = "impl FromPart for ";
+const READ_BY: &str = "    fn from_part<P: Part>(part: P) -> ";
 
 /// Fewer would mean that the files are read wrongly.
 const FEWEST: usize = 70;
@@ -67,6 +67,7 @@ fn add<T>(rows: &mut BTreeMap<String, T>, name: String, row: T) {
 
 struct Function<'a> {
     name: &'a str,
+    bounds: &'a str,
     parameters: &'a str,
     result: &'a str,
     body: &'a str,
@@ -99,17 +100,18 @@ fn impls(code: &str) -> (Vec<&str>, String) {
 fn struct_reader(block: &str) -> Option<Function<'_>> {
     let whole = format!("impl{block}");
     if !whole.starts_with(TRAIT) {
-        assert!(!block.contains("part: &"), "a reader in {block}");
+        assert!(!block.contains("part: "), "a reader in {block}");
         return None;
     }
-    let (_, rest) = split(block, "ghost of_record = { ");
+    let (_, rest) = split(block, "ghost of_part = { ");
     let (name, rest) = split(rest, " };");
     let (_, rest) = split(rest, READ_BY);
     let (result, rest) = split(rest, " {\n");
     let (body, rest) = split(rest, "\n    }");
-    assert!(!rest.contains("part: &"), "another reader in {block}");
+    assert!(!rest.contains("part: "), "another reader in {block}");
     Some(Function {
         name,
+        bounds: "",
         parameters: PARTS[0],
         result,
         body,
@@ -122,6 +124,7 @@ fn functions(code: &str) -> Vec<Function<'_>> {
     texts
         .map(|text| {
             let (name, rest) = split(text, "(");
+            let (name, bounds) = name.split_once('<').unwrap_or((name, ""));
             let (parameters, rest) = split(rest, ")");
             let (head, rest) = split(rest, "\n{\n");
             let (body, _) = split(rest, "\n}");
@@ -129,6 +132,7 @@ fn functions(code: &str) -> Vec<Function<'_>> {
             let result = result.lines().next().unwrap_or_default();
             Function {
                 name,
+                bounds,
                 parameters,
                 result,
                 body,
@@ -150,7 +154,9 @@ fn is_reader(function: &Function) -> bool {
         assert!(!function.body.contains("part["), "{name} takes bytes");
         return true;
     }
-    let reads = function.parameters.contains("&[u8") || function.parameters.contains("&Record");
+    let reads = function.bounds.contains("Part")
+        || function.parameters.contains("&[u8")
+        || function.parameters.contains("&Record");
     let is_known = !reads || width_of(name).is_some();
     assert!(is_known, "{name} is no known primitive");
     false
@@ -166,19 +172,29 @@ fn called(text: &str) -> &str {
 /// reading, so that its type is the one wanted.
 fn width_by_type(expression: &str, wanted: &str) -> usize {
     let call = expression.trim();
-    let is_bare =
-        call.starts_with(GENERIC) && call.ends_with(')') && call.matches('(').count() == 1;
+    let is_bare = call.starts_with(&format!("part.{GENERIC}("))
+        && call.ends_with(')')
+        && call.matches('(').count() == 1;
     assert!(is_bare, "of what type: {expression}");
     let found = NUMBERS.iter().find(|(number, _)| *number == wanted);
     found.unwrap_or_else(|| panic!("{wanted} is no number")).1
 }
 
+/// The primitive that an expression calls, and the text after the part: `part.number_at(offset)` or
+/// `flag_of(part, flag)`.
+fn primitive_call(expression: &str) -> Option<(&str, &str)> {
+    if let Some((_, call)) = expression.split_once("part.") {
+        return call.split_once('(');
+    }
+    let (before, after) = expression.split_once("(part, ")?;
+    Some((called(before), after))
+}
+
 /// The place that an expression reads by a primitive, where a value of a type is wanted. A flag is read
 /// of the flags' byte.
 fn read_by_primitive(expression: &str, wanted: &str, layout: &Layout) -> Place {
-    let (before, after) = expression.split_once("(part, ")?;
-    assert!(!after.contains("(part"), "read twice: {expression}");
-    let primitive = called(before);
+    let (primitive, after) = primitive_call(expression)?;
+    assert!(!after.contains("part"), "read twice: {expression}");
     if primitive == "flag_of" {
         return Some((layout["FLAGS"], 1));
     }

@@ -6,7 +6,7 @@ use Rattle.rules.proofs.Chains.{walk_start, walk_goes_on, walk_turn}
 use Rattle.rules.proofs.with_class.Goals as goal
 
 pub loop-init : goal.loop-init
-loop-init c = walk_start c.head-chain.ensures
+loop-init c = walk_start (rw c.bucket.ensures at c.head-chain.ensures)
 
 pub bounds-records-at : goal.bounds-records-at
 bounds-records-at c =
