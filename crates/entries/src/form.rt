@@ -2,8 +2,6 @@
 #![tactic(auto, unfolding(model::specs::Entry::operation_of, model::specs::Entry::no_amount, model::specs::Entry::no_value, model::specs::Entry::in_form))]
 
 ghost use Rattle.std.specs.Prelude.{◌≡◌};
-ghost use Rattle.octets.specs.Octets.{same};
-ghost use Rattle.model.specs.Words.{zeros};
 ghost use Rattle.model.specs.Entry.{operation_of, no_amount, no_value, arguments_fit, in_form};
 
 use model::numbers::{
@@ -26,24 +24,17 @@ pub fn operation_of(n: u8) -> Option<Operation>
     }
 }
 
-// Whether all eight bytes are zero.
-#[tactic(auto, using(octets::proofs::Laws::pointwise_same))]
-fn is_zero(value: [u8; 8]) -> bool
-    ensures { result ≡ same value (zeros 8) }
-{
-    octets::same_bytes(&value, &[0; 8])
-}
-
 fn no_amount(e: Entry) -> bool
     ensures { result ≡ no_amount e }
 {
     e.amount == 0
 }
 
+#[tactic(auto, unfolding(model::specs::Entry::no_value), using(octets::proofs::Laws::pointwise_same))]
 fn no_value(e: Entry) -> bool
     ensures { result ≡ no_value e }
 {
-    is_zero(e.value)
+    e.value == [0; 8]
 }
 
 // The argument, the amount and the value are those of the operation.
@@ -52,8 +43,7 @@ pub fn arguments_fit(o: Option<Operation>, e: Entry) -> bool
 {
     match o {
         Some(Operation::Factor) => (e.argument != FORMAT_UNDEFINED) & no_amount(e),
-        Some(Operation::SetCount) => (e.argument == 0) & no_value(e),
-        Some(Operation::AdjustCount) => (e.argument == 0) & no_value(e),
+        Some(Operation::SetCount | Operation::AdjustCount) => (e.argument == 0) & no_value(e),
         Some(Operation::SetDisable) => (e.argument <= LARGEST_DISABLE) & no_amount(e) & no_value(e),
         Some(Operation::SetService) => (e.argument <= ARGUMENT_LOCK) & no_amount(e) & no_value(e),
         None => false,

@@ -8,7 +8,7 @@ use records::entry::entry_of;
 use std::marker::Model;
 
 // The entries of a journal that are still to be read.
-#[derive(Drop)]
+#[derive(Clone, Drop)]
 pub struct Entries<'a> {
     rest: &'a [[u8; ENTRY_SIZE]],
 }

@@ -1,13 +1,13 @@
 -- The laws of groups of bytes, each for every size.
-use mathlib.Core.Path.{◌≡◌, refl, sym, ap, ◌∙◌}
-use mathlib.Core.List.{List, [], ◌∷◌, ◌++◌, flatten}
-use Prim.Native.Nat.{ℕ, zero, suc, ◌+◌, ◌-◌, ◌*◌, ◌≤◌, ◌<◌}
-use native.Mathlib.Nat.{zero-mul, suc-mul, add_comm, add-sub_cancel_left, mul-le-mul_right, not-suc-le-zero, le_of_suc-le-suc}
+use mathlib.Core.Path.{◌≡◌, refl, ap, ◌∙◌}
+use mathlib.Core.List.{List, [], ◌∷◌, flatten}
+use Prim.Native.Nat.{ℕ, zero, suc, ◌*◌, ◌≤◌, ◌<◌}
+use native.Mathlib.Nat.{zero-mul, suc-mul, add_comm, mul-le-mul_right, not-suc-le-zero, le_of_suc-le-suc}
 use native.Mathlib.Omega.{arith}
 use lib.ListN.{length, take, drop, get_or, length-take, length-drop}
 use lib.Seq.{drop-drop, take-add, take_all}
 use Rattle.std.specs.Simd.{first_chunks}
-use Rattle.octets.specs.Octets.{groups, with_part}
+use Rattle.octets.specs.Octets.{groups}
 
 -- There are as many groups as are asked for.
 pub length_groups : (size n : ℕ) (s : List ℕ) → length (groups size n s) ≡ n
@@ -29,16 +29,6 @@ group_at size (suc n) zero s h = rw zero-mul
 group_at size (suc n) (suc i) s h =
     group_at size n i (drop size s) (le_of_suc-le-suc h)
     ∙ rw (drop-drop (i * size) size s, suc-mul i size, add_comm (i * size) size)
-
--- The part &s[i * size..i * size + size] is the i-th group.
-pub group_part : (size n i : ℕ) (s : List ℕ) → i < n → take (i * size + size - i * size) (drop (i * size) s) ≡ get_or (groups size n s) i []
-group_part size n i s h = rw (add-sub_cancel_left (i * size) size) (sym (group_at size n i s h))
-
--- The part &mut s[i * size..i * size + size], lent and come back as `part`, is the i-th part.
-pub part_back : (size i : ℕ) (part back s : List ℕ) → back ≡ part
-    → take (i * size) s ++ (back ++ drop (i * size + size - i * size) (drop (i * size) s)) ≡ with_part size i part s
-unfolding with_part
-part_back size i part back s e = rw (e, add-sub_cancel_left (i * size) size, drop-drop size (i * size) s)
 
 -- A group has its size where the list has the groups' bytes.
 pub length_group : (size n i : ℕ) (s : List ℕ) → i < n → n * size ≤ length s → length (get_or (groups size n s) i []) ≡ size

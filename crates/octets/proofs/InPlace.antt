@@ -1,27 +1,22 @@
 -- What stands in a group of bytes stands in the whole list, at the group's place: one law for every size of groups, every group, offset and width.
 use mathlib.Core.Path.{◌≡◌, ap, ◌∙◌}
-use mathlib.Core.List.{List, [], ◌∷◌}
-use Prim.Native.Nat.{ℕ, zero, suc, ◌+◌, ◌-◌, ◌*◌, ◌≤◌, ◌<◌}
-use native.Mathlib.Nat.{zero-add, suc-add, mul_comm}
+use mathlib.Core.List.{List, []}
+use Prim.Native.Nat.{ℕ, ◌+◌, ◌-◌, ◌*◌, ◌≤◌, ◌<◌}
+use native.Mathlib.Nat.{mul_comm}
 use native.Mathlib.Omega.{arith}
 use lib.ListN.{take, drop, get_or}
-use lib.Seq.{drop-drop, take-nil, take-take}
+use lib.Seq.{drop-drop, take-take}
+use Rattle.std.proofs.lemmas.List.{drop-take}
 use Rattle.octets.specs.Octets.{field, groups}
 use Rattle.octets.proofs.Laws.{field_part}
 use Rattle.octets.proofs.GroupLaws.{group_at}
-
--- What follows the first m of m + n elements.
-drop_take : (m n : ℕ) (s : List ℕ) → drop m (take (m + n) s) ≡ take n (drop m s)
-drop_take zero n s = rw (zero-add n)
-drop_take (suc m) n [] = rw (suc-add m n, take-nil n)
-drop_take (suc m) n (x ∷ s) = rw (suc-add m n) (drop_take m n s)
 
 -- The bytes of a part are those of the whole at its place there.
 part_bytes : (at w from n : ℕ) (s : List ℕ) → at + w ≤ n → take w (drop at (take n (drop from s))) ≡ take w (drop (from + at) s)
 part_bytes at w from n s h =
     let e : n ≡ at + (n - at) = omega arith in
     ap (λ (k : ℕ). take w (drop at (take k (drop from s)))) e
-    ∙ rw (drop_take at (n - at) (drop from s), take-take w (n - at) (drop at (drop from s)) (omega arith), drop-drop at from s)
+    ∙ rw (drop-take at (n - at) (drop from s), take-take w (n - at) (drop at (drop from s)) (omega arith), drop-drop at from s)
 
 module _ (size n i at w : ℕ) (s : List ℕ) (h : i < n) (k : at + w ≤ size) where
   -- The bytes of the i-th group from an offset on are the list's own.

@@ -3,16 +3,17 @@ use mathlib.Core.Path.{◌≡◌, refl, sym, ap, ◌∙◌}
 use mathlib.Core.Logic.{◌↔◌}
 use mathlib.Core.List.{List, [], ◌∷◌, ◌++◌, append_assoc}
 use mathlib.Core.Bool.{Bool, true, false, ◌&&◌}
-use Prim.Native.Nat.{ℕ, zero, suc, ◌+◌, ◌-◌, ◌*◌, ◌/◌, ◌%◌, ◌^◌, ◌≤◌, ◌<◌}
+use Prim.Native.Nat.{ℕ, zero, suc, ◌+◌, ◌*◌, ◌/◌, ◌%◌, ◌^◌, ◌≤◌, ◌<◌}
 use native.Mathlib.Nat.{le_refl, add-zero, add-suc, zero-add, add_assoc, mul_assoc, pow-suc, pow-succ', div-one, div-add-mod', div-lt_iff_lt-mul, mod-lt, one-le-pow}
 use native.Mathlib.Numerals.{add-one, one-add}
 use native.Mathlib.Omega.{arith}
 use lib.Arith.{digits_div, digits_mod, digits_lt}
 use lib.Dec.{lit<, eqb}
 use lib.ListN.{length, take, drop, get_or, set, length-append, length-take, length-drop}
-use lib.Seq.{length-take-le, drop-drop, take-take, take-append-le, drop-append-add, set_split, drop-cons, get_or_at, get_or-take, get_or-drop}
-use borrow.Author.Tests.{eq-eqb, eqb-true}
-use lib.Pointwise.{pointwise}
+use lib.Seq.{length-take-le, take-take, take-append-le, set_split, drop-cons, get_or_at, get_or-take, get_or-drop}
+use lib.Pointwise.{pointwise, bytes_decides}
+use Rattle.std.proofs.lemmas.Bool.{false_from_ne_true}
+use Rattle.std.proofs.lemmas.Slice.{drop-append-drop}
 use Rattle.octets.specs.Octets.{field, digits, put, same}
 
 -- A power of 256 is not 0.
@@ -112,21 +113,13 @@ take_put at w v a s h d =
     let l : a ≤ length (take at s) = simp length-take (omega arith) in
     rw (take-append-le a (take at s) (digits w v ++ drop (at + w) s) l, take-take a at s d)
 
--- A list from a place on that lies past its first part.
-past : (p y : List ℕ) (a : ℕ) → length p ≤ a → drop a (p ++ y) ≡ drop (a - length p) y
-past p y a h =
-    let e : a ≡ length p + (a - length p) = omega arith in
-    ap (λ (k : ℕ). drop k (p ++ y)) e ∙ drop-append-add p y (a - length p)
-
 -- What stands after a number put is as it was.
 pub drop_put : (at w v a : ℕ) (s : List ℕ) → at + w ≤ length s → at + w ≤ a → drop a (put at w v s) ≡ drop a s
 unfolding put
 drop_put at w v a s h d =
     let l : length (take at s ++ digits w v) ≡ at + w = simp (length-append, length_digits, length-take) (omega arith) in
-    let e : at + w + (a - (at + w)) ≡ a = omega arith in
     ap (drop a) (sym (append_assoc (take at s) (digits w v) (drop (at + w) s)))
-    ∙ past (take at s ++ digits w v) (drop (at + w) s) a (omega arith)
-    ∙ rw (l, drop-drop (a - (at + w)) (at + w) s, e)
+    ∙ drop-append-drop (at + w) s (take at s ++ digits w v) a d l
 
 -- The number that was put is read back.
 pub get_put_same : (at w v : ℕ) (s : List ℕ) → at + suc w ≤ length s → field at (suc w) (put at (suc w) v s) ≡ v
@@ -154,45 +147,6 @@ put_one at v s h =
     let l : at < length s = omega arith in
     rw (div-one v, add-one at) (set_split s at v l)
 
--- A list is the same as itself.
-pub same_refl : (a : List ℕ) → same a a ≡ true
-unfolding same
-same_refl [] = refl
-same_refl (x ∷ xs) = rw (eq-eqb x x refl) (same_refl xs)
-
--- Both sides of an `&&` that holds.
-and_left : (a b : Bool) → a && b ≡ true → a ≡ true
-and_left true b h = refl
-and_left false b h = h
-
-and_right : (a b : Bool) → a && b ≡ true → b ≡ true
-and_right true b h = h
-and_right false b h = cc
-
--- Where the test holds the lists are equal.
-equal : (a b : List ℕ) → same a b ≡ true → a ≡ b
-unfolding same
-equal [] [] h = refl
-equal [] (y ∷ ys) h = cc
-equal (x ∷ xs) [] h = cc
-equal (x ∷ xs) (y ∷ ys) h =
-    let e : x ≡ y = eqb-true x y (and_left (eqb x y) (same xs ys) h) in
-    let r : xs ≡ ys = equal xs ys (and_right (eqb x y) (same xs ys) h) in
-    cc
-
--- The test holds where the lists are equal, and only there.
-pub same_eq : (a b : List ℕ) → (same a b ≡ true) ↔ (a ≡ b)
-same_eq a b = (equal a b, λ e. rw e (same_refl b))
-
--- A test that does not hold is false.
-else_false : (t : Bool) → (t ≡ true → ⊥) → t ≡ false
-else_false true h = absurd (h refl)
-else_false false h = refl
-
--- The test fails where the lists are not equal.
-pub same_differs : (a b : List ℕ) → (a ≡ b → ⊥) → same a b ≡ false
-same_differs a b h = else_false (same a b) (λ t. h (equal a b t))
-
 -- The library's equality of lists of numbers is the test.
 pub pointwise_same : (a b : List ℕ) → pointwise eqb a b ≡ same a b
 unfolding same
@@ -200,3 +154,15 @@ pointwise_same [] [] = refl
 pointwise_same [] (y ∷ ys) = refl
 pointwise_same (x ∷ xs) [] = refl
 pointwise_same (x ∷ xs) (y ∷ ys) = ap (λ (t : Bool). eqb x y && t) (pointwise_same xs ys)
+
+-- The test holds where the lists are equal, and only there.
+pub same_eq : (a b : List ℕ) → (same a b ≡ true) ↔ (a ≡ b)
+same_eq a b = rw (pointwise_same a b) at (bytes_decides a b)
+
+-- A list is the same as itself.
+pub same_refl : (a : List ℕ) → same a a ≡ true
+same_refl a = (same_eq a a).1 refl
+
+-- The test fails where the lists are not equal.
+pub same_differs : (a b : List ℕ) → (a ≡ b → ⊥) → same a b ≡ false
+same_differs a b h = false_from_ne_true (same a b) (λ t. h ((same_eq a b).0 t))

@@ -1,7 +1,8 @@
 // Numbers of 1, 2, 4 and 8 bytes, big-endian, at an offset of a lent part; groups of one size of a slice; comparison of two runs of bytes.
 #![tactic(auto)]
 
-ghost use Rattle.std.specs.Prelude.{◌≡◌, ℕ, [], ◌++◌, ◌+◌, ◌/◌, ◌≤◌, ◌<◌, length, take, drop, get_or};
+ghost use Rattle.std.specs.Prelude.{◌≡◌, ℕ, List, [], ◌++◌, ◌+◌, ◌*◌, ◌/◌, ◌≤◌, ◌<◌, length, map, take, drop, get_or};
+ghost use mathlib.Core.List.{flatten};
 ghost use Rattle.octets.specs.Octets.{field, put, groups, with_part, same};
 
 // A number of a fixed width, in big-endian bytes.
@@ -147,6 +148,26 @@ pub fn put_group<const N: usize>(bytes: &mut [u8], i: usize, part: &[u8; N])
     ensures { bytes.new ≡ with_part N i part.now bytes.old }
 {
     put_bytes(bytes, i * N, part);
+}
+
+// What makes N bytes of an item.
+pub trait Chunk<T, const N: usize> {
+    ghost chunk: { T → List ℕ };
+
+    fn chunk(item: &T) -> [u8; N]
+        ensures { result ≡ chunk item.now };
+}
+
+// Writes the bytes made of each item, one after the other from the start on.
+#[tactic(auto, using(crate::proofs::Written::written_start, crate::proofs::Written::written_end))]
+pub fn put_each<C: Chunk<T, N>, T, const N: usize>(bytes: &mut [u8], items: &[T])
+    requires size { 0 < N }
+    requires in_range { length items.now * N ≤ length bytes.old }
+    ensures { bytes.new ≡ flatten (map C.chunk items.now) ++ drop (length items.now * N) bytes.old }
+{
+    for (i, item) in items.iter().enumerate() {
+        put_group(bytes, i, &C::chunk(item));
+    }
 }
 
 // Whether two runs of bytes are the same.

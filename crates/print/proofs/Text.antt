@@ -5,13 +5,13 @@ use native.Mathlib.Omega.{arith}
 use mathlib.Core.Path.{◌≡◌, refl, ap}
 use mathlib.Core.List.{List, ◌++◌}
 use Rattle.std.specs.Prelude.{Some, None, Ok, Err, is_ok}
+use Rattle.std.proofs.lemmas.Bool.{and_parts}
 use mathlib.Core.Bool.{Bool, true, false}
 use lib.Dec.{leb, lit<}
 use lib.ListN.{length, drop, length-append}
 use borrow.Author.Tests.{leb-true}
 use Rattle.model.specs.Calls.{Returned, number, is_worked, fresh_state, run_journal}
 use Rattle.model.specs.Print.{answers_text, decimal_line}
-use Rattle.model.proofs.Laws.{and_left, and_right}
 use Rattle.calls.proofs.Laws.{run_lengths}
 use Rattle.print.specs.Print.{has_room, text_of, run_into, PrintResult, print_result, print_into}
 use Rattle.model.specs.declared.Refusal.TheVariants.{SiteLength, SiteField, SiteTwice, SiteMissing, StateLength, StateForm, JournalLength, AnswersLength}
@@ -42,7 +42,7 @@ worked_if_ok (Err AnswersLength) = refl
 
 pub number_fits : (journal text : List ℕ) → has_room journal text ≡ true → 3 ≤ length text
 unfolding has_room
-number_fits journal text h = leb-true 3 (length text) (and_right (leb (length journal / 24 * 33) (length text)) _ h)
+number_fits journal text h = leb-true 3 (length text) (and_parts (leb (length journal / 24 * 33) (length text)) (leb 3 (length text)) h).1
 
 module _ (site journal state answers text : List ℕ) where
   module _ (h : has_room journal text ≡ true) (returned : Returned) (e : returned ≡ (run_into site journal state answers).returned) where
@@ -50,7 +50,7 @@ module _ (site journal state answers text : List ℕ) where
     unfolding has_room run_into run_journal
     lines_fit w =
         let l = (run_lengths site (fresh_state site state).state journal answers (rw e at w)).1 in
-        let m = leb-true (length journal / 24 * 33) (length text) (and_left _ (leb 3 (length text)) h) in
+        let m = leb-true (length journal / 24 * 33) (length text) (and_parts (leb (length journal / 24 * 33) (length text)) (leb 3 (length text)) h).0 in
         omega arith
 
     module _ (n : ℕ) (state' answers' text' : List ℕ) (f : state' ≡ (run_into site journal state answers).state) (g : answers' ≡ (run_into site journal state answers).answers) where

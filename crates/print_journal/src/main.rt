@@ -35,7 +35,7 @@ fn fail(rt: &HostRuntime, what: &str, error: io::Error) {
     let _ = eprintln!(rt; "{what}: {error}");
 }
 
-// Reads until the file ends or the buffer is full.
+// Reads until the file ends or the buffer is full. The loop is a `while`: the count moves by what a read gives, and no iterator of std's promises that.
 fn read_open(file: &mut File, bytes: &mut [u8]) -> io::Result<usize>
     ensures { IfOk result (λ n. IsPrefixLen n bytes.new) }
 {

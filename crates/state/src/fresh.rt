@@ -6,21 +6,26 @@ ghost use Rattle.model.specs.State.{fresh_record, fresh};
 
 use model::RecordKind;
 use model::numbers::RECORD_SIZE;
+use octets::Chunk;
 use records::site::{days_given, disable_given, record_kind_of, uses_given};
 use records::state::{fresh_credential, fresh_point};
 use records::{Record, ToRecord};
 
 // The state record of a site record.
-fn fresh_record(s: &Record) -> Record
-    ensures { result ≡ fresh_record s.now }
-{
-    match record_kind_of(s) {
-        Some(RecordKind::OfPoint) => fresh_point().to_record(),
-        Some(RecordKind::OfCredential) => {
-            fresh_credential(uses_given(s), days_given(s), disable_given(s)).to_record()
-        }
-        Some(RecordKind::OfZone | RecordKind::OfRule | RecordKind::OfFactor) | None => {
-            [0; RECORD_SIZE]
+struct FreshRecord;
+
+impl Chunk<Record, RECORD_SIZE> for FreshRecord {
+    ghost chunk = { fresh_record };
+
+    fn chunk(s: &Record) -> Record {
+        match record_kind_of(s) {
+            Some(RecordKind::OfPoint) => fresh_point().to_record(),
+            Some(RecordKind::OfCredential) => {
+                fresh_credential(uses_given(s), days_given(s), disable_given(s)).to_record()
+            }
+            Some(RecordKind::OfZone | RecordKind::OfRule | RecordKind::OfFactor) | None => {
+                [0; RECORD_SIZE]
+            }
         }
     }
 }
@@ -30,7 +35,5 @@ pub fn write_fresh_state(site: &[u8], state: &mut [u8])
     requires state_len { length state.old ≡ length site.now }
     ensures { state.new ≡ fresh site.now }
 {
-    for (i, s) in index::records(site).iter().enumerate() {
-        octets::put_group(state, i, &fresh_record(s));
-    }
+    octets::put_each::<FreshRecord, _, _>(state, index::records(site));
 }

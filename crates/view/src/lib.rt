@@ -3,14 +3,14 @@
 #![tactic(auto)]
 
 ghost use Rattle.std.specs.Prelude.{◌≡◌, length};
-ghost use Rattle.model.specs.Site.{records, lookup, find_in};
+ghost use Rattle.model.specs.Site as Site;
+ghost use Rattle.model.specs.Site.{lookup, find_in};
 ghost use Rattle.model.specs.Calls.{check_site, fresh_result, fresh_state, check_state, run_result, run_journal};
 ghost use Rattle.site.specs.Factor.{fits};
 ghost use Rattle.view.specs.Object.{kind_of, instance_of};
 
 use model::{CredentialId, PointId, Refusal, RightsId, ZoneId};
 use site::{Presented, lookup};
-use std::marker::Model;
 
 // What a record may be looked up by.
 #[derive(Clone, Copy, PartialEq, Eq)]
@@ -34,27 +34,17 @@ pub fn find_object(site: &[u8], object: Object) -> &[u8]
     }
 }
 
-// A site's bytes, and how many records they hold; seen as the bytes.
-#[derive(Drop)]
+// A site's bytes, and how many records they hold.
+#[derive(Clone, Copy)]
 pub struct SiteView<'a> {
-    bytes: &'a [u8],
-    records: usize,
-}
-
-impl<'a> Model for SiteView<'a> {
-    ghost use Rattle.std.specs.Prelude.{◌≡◌, ℕ, List, length};
-    ghost use Rattle.model.specs.Site as Site;
-
-    ghost Value = { List ℕ };
-
-    ghost view = { λ a. a.bytes.now };
-
-    ghost invariant = { λ a. a.records ≡ length (Site.records a.bytes.now) };
+    pub bytes: &'a [u8],
+    pub records: usize,
+    ghost counted: { records ≡ length (Site.records bytes.now) },
 }
 
 impl<'a> SiteView<'a> {
     pub fn of(site: &'a [u8]) -> SiteView<'a>
-        ensures { result ≡ site.now }
+        ensures { (result.bytes ≡ site.entry) × (result.records ≡ length (Site.records site.now)) }
     {
         SiteView {
             bytes: site,
@@ -63,38 +53,38 @@ impl<'a> SiteView<'a> {
     }
 
     pub fn records(&self) -> usize
-        ensures { result ≡ length (records self.now) }
+        ensures { result ≡ length (Site.records self.now.bytes.now) }
     {
         self.records
     }
 
     pub fn find(&self, object: Object) -> &'a [u8]
-        ensures { result.now ≡ lookup (kind_of object) (instance_of object) self.now }
+        ensures { result.now ≡ lookup (kind_of object) (instance_of object) self.now.bytes.now }
     {
         find_object(self.bytes, object)
     }
 
     // The first factor that fits what is presented, else the empty part.
     pub fn find_factor(&self, factor: Presented) -> &'a [u8]
-        ensures { result.now ≡ find_in (fits factor) (records self.now) }
+        ensures { result.now ≡ find_in (fits factor) (Site.records self.now.bytes.now) }
     {
         lookup::find_factor(self.bytes, factor)
     }
 
     pub fn check_site(&self) -> Result<(), Refusal>
-        ensures { result ≡ check_site self.now }
+        ensures { result ≡ check_site self.now.bytes.now }
     {
         calls::check_site(self.bytes)
     }
 
     pub fn make_fresh(&self, state: &mut [u8]) -> Result<(), Refusal>
-        ensures { fresh_result result state.new ≡ fresh_state self.now state.old }
+        ensures { fresh_result result state.new ≡ fresh_state self.now.bytes.now state.old }
     {
         calls::make_fresh(self.bytes, state)
     }
 
     pub fn check_state(&self, state: &[u8]) -> Result<(), Refusal>
-        ensures { result ≡ check_state self.now state.now }
+        ensures { result ≡ check_state self.now.bytes.now state.now }
     {
         calls::check_state(self.bytes, state)
     }
@@ -105,7 +95,7 @@ impl<'a> SiteView<'a> {
         journal: &[u8],
         answers: &mut [u8],
     ) -> Result<(), Refusal>
-        ensures { run_result result state.new answers.new ≡ run_journal self.now state.old journal.now answers.old }
+        ensures { run_result result state.new answers.new ≡ run_journal self.now.bytes.now state.old journal.now answers.old }
     {
         calls::work_through(self.bytes, state, journal, answers)
     }

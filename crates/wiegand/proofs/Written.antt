@@ -12,10 +12,10 @@ use lib.ListN.{length, take, drop, length-append}
 use lib.Pow.{shr-shr}
 use lib.Seq.{take-append-le, drop-append-le}
 use borrow.Author.Tests.{lt-leb, leb-false, eqb-true, not-false}
+use Rattle.std.proofs.lemmas.Bool.{and_parts, or_parts}
 use Rattle.octets.specs.Octets.{digits}
 use Rattle.octets.proofs.Laws.{field_digits}
 use Rattle.model.specs.Words.{bit, bit_of, zeros}
-use Rattle.model.proofs.Laws.{and_left, and_right, or_left, or_right}
 use Rattle.wiegand.specs.declared.Factor.{Factor}
 use Rattle.wiegand.specs.Wiegand.{bits, number_of, number_of_ones, is_even, is_odd, first_parity, last_parity, facility_of, card_of, factor, factor_of, reading_error, not_twenty_six_bits, read_wiegand26, between, first_parity_bit, last_parity_bit, written, write_wiegand26, format_wiegand26}
 use Rattle.wiegand.specs.Theorems.{facility_in, card_in, ReadBack, OnlyWritten, NoneShared}
@@ -122,7 +122,8 @@ is_26 : (n k : ℕ) (made : Factor) → read_wiegand26 n k ≡ Ok made → (k �
 unfolding read_wiegand26
 is_26 n k made h =
     let t = (made_of (not (eqb k 26) || leb 67108864 n) (factor_of (bits 26 n)) made h).0 in
-    (eqb-true k 26 (not-false (eqb k 26) (or_left (not (eqb k 26)) (leb 67108864 n) t)), leb-false 67108864 n (or_right (not (eqb k 26)) (leb 67108864 n) t))
+    let e = or_parts (not (eqb k 26)) (leb 67108864 n) t in
+    (eqb-true k 26 (not-false (eqb k 26) e.0), leb-false 67108864 n e.1)
 
 is_good : (n : ℕ) (made : Factor) → n < 67108864 → read_wiegand26 n 26 ≡ Ok made → made.format ≡ format_wiegand26
     → first_parity (bits 26 n) && last_parity (bits 26 n) ≡ true
@@ -170,7 +171,8 @@ only_26 n made h m l =
     let g = is_good n made l h m in
     let f = n / 131072 % 256 in
     let c = n / 2 % 65536 in
-    let w : n ≡ write_wiegand26 f c = good_written n l (and_left a b g) (and_right a b g) in
+    let p = and_parts a b g in
+    let w : n ≡ write_wiegand26 f c = good_written n l p.0 p.1 in
     let e : made ≡ factor f c = (made_of false made (factor f c) (sym h ∙ read_good n l g)).1 in
     rw (e, facility_in_law f c, card_in_law f c) (mod-lt (n / 131072) (lit< tt), mod-lt (n / 2) (lit< tt), w)
 

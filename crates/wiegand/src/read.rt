@@ -25,6 +25,7 @@ fn reading_error() -> Factor
     }
 }
 
+#[tactic(auto, unfolding(crate::specs::Wiegand::factor, octets::specs::Octets::digits))]
 fn factor(facility: u8, card: u16) -> Factor
     ensures { result ≡ factor facility card }
 {
@@ -36,6 +37,7 @@ fn factor(facility: u8, card: u16) -> Factor
 }
 
 // Whether the first 13 of 26 bits have an even number of ones.
+#[tactic(auto, unfolding(crate::specs::Wiegand::is_even), using(crate::proofs::Fields::first_parity_law))]
 fn has_first_parity(number: u32) -> bool
     ensures { result ≡ first_parity (bits 26 number) }
 {
@@ -43,6 +45,7 @@ fn has_first_parity(number: u32) -> bool
 }
 
 // Whether the last 13 have an odd number.
+#[tactic(auto, unfolding(crate::specs::Wiegand::is_even, crate::specs::Wiegand::is_odd), using(crate::proofs::Fields::last_parity_law))]
 fn has_last_parity(number: u32) -> bool
     ensures { result ≡ last_parity (bits 26 number) }
 {
@@ -75,6 +78,7 @@ fn factor_of(number: u32) -> Factor
 }
 
 // The bits, as one number with the first bit highest, and their count, to a factor. Turned away where they are not 26 bits.
+#[tactic(auto, unfolding(crate::specs::Wiegand::read_wiegand26))]
 pub fn read_wiegand26(number: u64, count: u32) -> Result<Factor, NotTwentySixBits>
     ensures { result ≡ read_wiegand26 number count }
 {

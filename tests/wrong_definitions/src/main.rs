@@ -143,3 +143,40 @@ fn main() -> ExitCode {
         ExitCode::from(2)
     })
 }
+
+#[cfg(test)]
+mod tests {
+    use super::*;
+
+    fn package() -> &'static Path {
+        Path::new(env!("CARGO_MANIFEST_DIR"))
+    }
+
+    fn edits_of(name: &str) -> Vec<edits::Edit> {
+        let found = edits::read(&read(&package().join(name)).unwrap()).unwrap();
+        assert!(!found.is_empty(), "{name}");
+        found
+    }
+
+    #[test]
+    fn each_text_of_list_and_equal_stands_once() {
+        let files = spec_files(&package().join("../..")).unwrap();
+        let mut astray = Vec::new();
+        for name in ["list", "equal"] {
+            let edits = edits_of(name);
+            let errors = edits.iter().filter_map(|e| e.apply(&files).err());
+            astray.extend(errors.map(|e| format!("{name}: {e}")));
+        }
+        assert!(astray.is_empty(), "{}", astray.join("\n"));
+    }
+
+    #[test]
+    fn each_equal_one_is_made_by_a_rule() {
+        let repository = package().join("../..");
+        let files = spec_files(&repository).unwrap();
+        let names = names::all_names(&repository, &files).unwrap();
+        let made = wrong::by_rule(&files, &names);
+        let left = wrong::without_equal(made, &files, &edits_of("equal"));
+        assert!(left.is_ok(), "{}", left.err().unwrap_or_default());
+    }
+}
