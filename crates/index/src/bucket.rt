@@ -41,7 +41,7 @@ impl Bucket {
     }
 
     pub fn number(self) -> usize
-        ensures { (result ≡ self) × (result < buckets) }
+        ensures { result ≡ self }
     {
         self.number
     }

@@ -18,6 +18,6 @@ returns c =
     let n = c.number-head.ensures in
     let z : most_records + buckets + kind_classes + c.kind_class.result ≡ most_records + buckets + c.kind_class.result + kind_classes = omega arith in
     let f = c.before-2.ensures ∙ ap (λ w. i + bit_or w (head c.number-head.result x / chain_scale) * chain_scale) q.mark in
-    inserted i ss x c.requires.i_in_bounds.0 c.number-head.result (n.0 ∙ q.bucket) n.1
+    inserted i ss x c.requires.i_in_bounds.0 c.number-head.result (n ∙ q.bucket) (omega (arith, n))
     c.kind_class.result (c.kind_class.ensures ∙ ap (λ w. w % kind_classes) c.kind_of.ensures) (omega (arith, c.kind_class.ensures)) c.requires.indexed_from
     c.before-2.result.0 f l.result (rw z l.ensures)
