@@ -5,7 +5,8 @@ use Rattle.std.proofs.lemmas.Iterator.Search.{all_from_yields_List}
 use Rattle.model.specs.Words.{all}
 use Rattle.model.specs.Site.{records}
 use Rattle.model.specs.State.{record_well, well_formed}
-use Rattle.state.proofs.Pairs.{zip_panel, all_pairs}
+use Rattle.site.proofs.Records.{all_is}
+use Rattle.state.proofs.Pairs.{zip_panel}
 use Rattle.state.proofs.well.is_well_formed.Goals as goal
 
 pub returns : goal.returns
@@ -14,4 +15,4 @@ returns c =
     let q = record_well (records c.args.site.now) in
     let pairs = YieldsList-from_zip (YieldsList-from_slice c.records.result.now (search rules)) (YieldsList-from_slice c.groups-states.result.now (search rules)) in
     let e = all_from_yields_List q c.all.new.self _ c.all.result c.all.ensures.ran pairs (λ x b f k. search (rules, tests)) in
-    e ∙ all_pairs q _ ∙ ap (all q) (ap₂ zip c.records.ensures.value c.groups-states.ensures ∙ zip_panel c.args.site.now c.args.state.now c.requires)
+    e ∙ all_is q _ ∙ ap (all q) (ap₂ zip c.records.ensures.value c.groups-states.ensures ∙ zip_panel c.args.site.now c.args.state.now c.requires)
