@@ -30,6 +30,7 @@ impl Chunk<Record, RECORD_SIZE> for FreshRecord {
     }
 }
 
+#[tactic(auto, using(index::proofs::Building::length_records))]
 pub fn write_fresh_state(site: &[u8], state: &mut [u8])
     requires site_len { length site.now % 32 ≡ 0 }
     requires state_len { length state.old ≡ length site.now }
