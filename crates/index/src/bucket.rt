@@ -1,7 +1,7 @@
 // The buckets into which records fall, and the classes of rules, each of a bucket and a tag. A contract sees the number of either; its type keeps that in
 // range.
 ghost use Rattle.std.specs.Prelude.{◌≡◌, ◌/◌, ◌%◌, ◌<◌};
-ghost use Rattle.index.specs.Index.{buckets, tags, rule_class_count};
+ghost use Rattle.index.specs.Index.{tags};
 
 use std::marker::Model;
 
@@ -10,16 +10,16 @@ pub(crate) const BUCKETS: usize = 1024;
 // The tags, a bit each above a record's number.
 pub const TAGS: usize = 4;
 
-pub(crate) const RULE_CLASSES: usize = 4096;
+const RULE_CLASSES: usize = 4096;
 
+// A number below N.
 #[derive(Clone, Copy)]
-pub struct Bucket {
+pub struct Below<const N: usize> {
     number: usize,
 }
 
-impl Model for Bucket {
+impl<const N: usize> Model for Below<N> {
     ghost use Rattle.std.specs.Prelude.{ℕ, ◌<◌};
-    ghost use Rattle.index.specs.Index.{buckets};
 
     ghost Value = { ℕ };
 
@@ -27,58 +27,34 @@ impl Model for Bucket {
 
     ghost inverse = { λ n. record { number = n } };
 
-    ghost invariant = { λ a. a.number < buckets };
+    ghost invariant = { λ a. a.number < N };
 }
 
-impl Bucket {
-    // The bucket of any number.
-    pub fn of(number: usize) -> Bucket
-        ensures { result ≡ number % buckets }
+pub type Bucket = Below<BUCKETS>;
+
+pub type Class = Below<RULE_CLASSES>;
+
+impl<const N: usize> Below<N> {
+    // That of any number.
+    pub fn of(number: usize) -> Below<N>
+        requires { 0 < N }
+        ensures { result ≡ number % N }
     {
-        Bucket {
-            number: number % BUCKETS,
-        }
+        Below { number: number % N }
     }
 
     pub fn number(self) -> usize
-        ensures { result ≡ self }
+        ensures { result ≡ self.entry }
     {
         self.number
     }
 }
 
-#[derive(Clone, Copy)]
-pub struct Class {
-    number: usize,
-}
-
-impl Model for Class {
-    ghost use Rattle.std.specs.Prelude.{ℕ, ◌<◌};
-    ghost use Rattle.index.specs.Index.{rule_class_count};
-
-    ghost Value = { ℕ };
-
-    ghost view = { λ a. a.number };
-
-    ghost inverse = { λ n. record { number = n } };
-
-    ghost invariant = { λ a. a.number < rule_class_count };
-}
-
-impl Class {
-    // The class of any number.
-    pub fn of(number: usize) -> Class
-        ensures { result ≡ number % rule_class_count }
-    {
-        Class {
-            number: number % RULE_CLASSES,
-        }
-    }
-
+impl Below<RULE_CLASSES> {
     pub fn bucket(self) -> Bucket
         ensures { result ≡ self / tags }
     {
-        Bucket {
+        Below {
             number: self.number / TAGS,
         }
     }

@@ -18,7 +18,7 @@ mod chain; // chain.rt: the records of a bucket from one on
 mod indexed; // indexed.rt: a site with its index, and the first record in it of what is sought
 
 use bucket::BUCKETS;
-pub use bucket::{Bucket, Class, TAGS};
+pub use bucket::{Below, Bucket, Class, TAGS};
 pub use chain::Chain;
 pub use indexed::{IndexedSite, Keyed, LONG_CHAIN, Sought};
 use model::layout::FACTOR_VALUE;
