@@ -22,7 +22,9 @@ pub use bucket::{Below, Bucket, Class, TAGS};
 pub use chain::Chain;
 pub use indexed::{IndexedSite, Keyed, LONG_CHAIN, Sought};
 use model::layout::FACTOR_VALUE;
-use model::numbers::{ACCESS_RULE, AUTHENTICATION_FACTOR, MODULUS, ROLE_IDENTIFYING};
+use model::numbers::{
+    ACCESS_RULE, AUTHENTICATION_FACTOR, LOCATION_EVERYWHERE, MODULUS, ROLE_IDENTIFYING,
+};
 use octets::Number;
 use records::Record;
 use records::site::{
@@ -91,7 +93,7 @@ fn mixed(a: u32, b: u32, c: u32) -> usize
 fn spread(a: u32, b: u32, c: u32, turn: u16) -> Bucket
     ensures { result ≡ Index.spread a b c turn }
 {
-    Bucket::of(mixed(a, b, c) / SPREAD_SCALE + (turn as usize) * SPREAD_TURN)
+    Bucket::of(mixed(a, b, c) / SPREAD_SCALE + usize::from(turn) * SPREAD_TURN)
 }
 
 // The bucket of a zone, a point or a credential.
@@ -148,7 +150,7 @@ fn class_of_rule(part: &Record) -> Class
 {
     let rights = instance_of(part);
     if is_everywhere(part) {
-        return rule_class(rights, 0, 0);
+        return rule_class(rights, LOCATION_EVERYWHERE, 0);
     }
     rule_class(rights, location_kind_of(part), location_of(part))
 }
@@ -160,7 +162,7 @@ fn slot_of_rule(part: &Record) -> Slot
     let class = class_of_rule(part);
     Slot {
         bucket: class.bucket(),
-        mark: (1 as u16) << class.tag(),
+        mark: 1 << class.tag(),
     }
 }
 

@@ -12,8 +12,8 @@ ghost use Rattle.rules.specs.Walk.{found, both, findings, Gains, rule_classes, c
 use index::{Class, IndexedSite};
 use model::layout::{RULE_DAY_MONDAY, RULE_DAY_SUNDAY};
 use model::numbers::{
-    ACCESS_POINT, ACCESS_RULE, ACCESS_ZONE, DAYS_OF_WEEK, MINUTES_OF_DAY, NONE, SECONDS_OF_DAY,
-    SECONDS_OF_MINUTE,
+    ACCESS_RULE, DAYS_OF_WEEK, LOCATION_EVERYWHERE, LOCATION_POINT, LOCATION_ZONE, MINUTES_OF_DAY,
+    NONE, SECONDS_OF_DAY, SECONDS_OF_MINUTE,
 };
 use model::{PointId, RightsId, Verdict, ZoneId};
 use records::Record;
@@ -93,8 +93,8 @@ pub fn location_fits(part: &Record, point: PointId, to: ZoneId) -> bool
         return true;
     }
     match location_kind_of(part) {
-        ACCESS_POINT => location_of(part) == point.0,
-        ACCESS_ZONE => (to.0 != NONE) && (location_of(part) == to.0),
+        LOCATION_POINT => location_of(part) == point.0,
+        LOCATION_ZONE => (to != ZoneId::NONE) && (location_of(part) == to.0),
         _ => false,
     }
 }
@@ -209,12 +209,12 @@ fn rule_classes(a: Asked) -> [Class; RULE_CLASSES]
 {
     // An array: a walk that computes each class where it is needed runs 6 to 14 % more instructions (measured).
     [
-        index::rule_class(a.first.0, 0, 0),
-        index::rule_class(a.first.0, ACCESS_POINT, a.point.0),
-        index::rule_class(a.first.0, ACCESS_ZONE, a.to.0),
-        index::rule_class(a.second.0, 0, 0),
-        index::rule_class(a.second.0, ACCESS_POINT, a.point.0),
-        index::rule_class(a.second.0, ACCESS_ZONE, a.to.0),
+        index::rule_class(a.first.0, LOCATION_EVERYWHERE, 0),
+        index::rule_class(a.first.0, LOCATION_POINT, a.point.0),
+        index::rule_class(a.first.0, LOCATION_ZONE, a.to.0),
+        index::rule_class(a.second.0, LOCATION_EVERYWHERE, 0),
+        index::rule_class(a.second.0, LOCATION_POINT, a.point.0),
+        index::rule_class(a.second.0, LOCATION_ZONE, a.to.0),
     ]
 }
 
@@ -223,7 +223,7 @@ fn rule_classes(a: Asked) -> [Class; RULE_CLASSES]
 fn walked(classes: &[Class; RULE_CLASSES], a: Asked) -> &[Class]
     ensures { result.now ≡ take (class_count a) classes.now }
 {
-    if (a.second == a.first) | (a.second.0 == NONE) {
+    if (a.second == a.first) | (a.second == RightsId::NONE) {
         return &classes[..NUMBER_CLASSES];
     }
     classes
