@@ -1,9 +1,8 @@
 // The calls, on slices. Every call checks the site anew, and nothing is written before all checks have passed.
-#![tactic(auto, unfolding(model::specs::Calls::is_worked, model::specs::Calls::fresh_returned, model::specs::Calls::fresh_state, model::specs::Calls::check_state, model::specs::Calls::run_returned, model::specs::Calls::run_journal))]
+#![tactic(auto, unfolding(model::specs::Calls::is_worked, model::specs::Calls::fresh_returned, model::specs::Calls::fresh_state, model::specs::Calls::check_state, model::specs::Calls::run_returned, model::specs::Calls::run_journal), using(crate::proofs::Laws::fresh_whole, crate::proofs::Laws::run_whole))]
 
-ghost use Rattle.std.specs.Prelude.{◌≡◌, ◌*◌, ◌/◌, ◌%◌, length, IfOk};
+ghost use Rattle.std.specs.Prelude.{◌≡◌, ◌*◌, ◌/◌, ◌%◌, length, MatchResult, Ok, Err};
 ghost use Rattle.model.specs.Calls.{number, check_site, fresh_returned, fresh_result, fresh_state, check_state, run_returned, run_result, run_journal};
-ghost use Rattle.index.specs.Index.{Indexed};
 
 use index::{INDEX_SIZE, IndexedSite, UNBUILT, Words};
 use model::Refusal;
@@ -27,18 +26,19 @@ pub fn check_site(site: &[u8]) -> Result<(), Refusal>
     site::check::check_site(site, &mut words)
 }
 
-// Refusals 1 to 5; it leaves the index of a site that is worked through, as do the next two.
-fn fresh_checked(site: &[u8], words: &mut Words, state: &[u8]) -> Result<(), Refusal>
-    ensures value { result ≡ fresh_returned site.now state.now }
-    ensures index { IfOk result (λ u. Indexed site.now words.new) }
-    ensures site_len { IfOk result (λ u. length site.now % 32 ≡ 0) }
-    ensures state_len { IfOk result (λ u. length state.now ≡ length site.now) }
+// Refusals 1 to 5; else the site with its index.
+fn fresh_checked<'s, 'w>(
+    site: &'s [u8],
+    words: &'w mut Words,
+    state: &[u8],
+) -> Result<IndexedSite<'s, 'w>, Refusal>
+    ensures { MatchResult result (λ s. (fresh_returned site.now state.now ≡ Ok tt) × (s ≡ site.now)) (λ r. fresh_returned site.now state.now ≡ Err r) }
 {
     site::check::check_site(site, words)?;
     if state.len() != site.len() {
         return Err(Refusal::StateLength);
     }
-    Ok(())
+    Ok(IndexedSite::new(site, words))
 }
 
 // The fresh state: refusals 1 to 5; turned back, the state stays as it was.
@@ -51,18 +51,19 @@ pub fn make_fresh(site: &[u8], state: &mut [u8]) -> Result<(), Refusal>
     Ok(())
 }
 
-// Refusals 1 to 6.
-fn state_checked(site: &[u8], words: &mut Words, state: &[u8]) -> Result<(), Refusal>
-    ensures value { result ≡ check_state site.now state.now }
-    ensures index { IfOk result (λ u. Indexed site.now words.new) }
-    ensures site_len { IfOk result (λ u. length site.now % 32 ≡ 0) }
-    ensures state_len { IfOk result (λ u. length state.now ≡ length site.now) }
+// Refusals 1 to 6; else the site with its index.
+fn state_checked<'s, 'w>(
+    site: &'s [u8],
+    words: &'w mut Words,
+    state: &[u8],
+) -> Result<IndexedSite<'s, 'w>, Refusal>
+    ensures { MatchResult result (λ s. (check_state site.now state.now ≡ Ok tt) × (s ≡ site.now)) (λ r. check_state site.now state.now ≡ Err r) }
 {
-    fresh_checked(site, words, state)?;
-    if !state::well::is_well_formed(&IndexedSite::new(site, words), state) {
+    let indexed = fresh_checked(site, words, state)?;
+    if !state::well::is_well_formed(&indexed, state) {
         return Err(Refusal::StateForm);
     }
-    Ok(())
+    Ok(indexed)
 }
 
 // The state check: refusals 1 to 6.
@@ -70,31 +71,28 @@ pub fn check_state(site: &[u8], state: &[u8]) -> Result<(), Refusal>
     ensures { result ≡ check_state site.now state.now }
 {
     let mut words = [UNBUILT; INDEX_SIZE];
-    state_checked(site, &mut words, state)
+    state_checked(site, &mut words, state)?;
+    Ok(())
 }
 
-// Refusals 1 to 6, 10 and 11.
-fn run_checked(
-    site: &[u8],
-    words: &mut Words,
+// Refusals 1 to 6, 10 and 11; else the site with its index.
+fn run_checked<'s, 'w>(
+    site: &'s [u8],
+    words: &'w mut Words,
     state: &[u8],
     journal: &[u8],
     answers: &[u8],
-) -> Result<(), Refusal>
-    ensures value { result ≡ run_returned site.now state.now journal.now answers.now }
-    ensures index { IfOk result (λ u. Indexed site.now words.new) }
-    ensures site_len { IfOk result (λ u. length site.now % 32 ≡ 0) }
-    ensures state_len { IfOk result (λ u. length state.now ≡ length site.now) }
-    ensures answers_len { IfOk result (λ u. length answers.now ≡ length journal.now / 24 * 16) }
+) -> Result<IndexedSite<'s, 'w>, Refusal>
+    ensures { MatchResult result (λ s. (run_returned site.now state.now journal.now answers.now ≡ Ok tt) × (s ≡ site.now)) (λ r. run_returned site.now state.now journal.now answers.now ≡ Err r) }
 {
-    state_checked(site, words, state)?;
+    let indexed = state_checked(site, words, state)?;
     if (journal.len() % ENTRY_SIZE != 0) | (LARGEST_JOURNAL < journal.len()) {
         return Err(Refusal::JournalLength);
     }
     if answers.len() != journal.len() / ENTRY_SIZE * ANSWER_SIZE {
         return Err(Refusal::AnswersLength);
     }
-    Ok(())
+    Ok(indexed)
 }
 
 // The journal run: refusals 1 to 6, 10, 11; turned back, state and answers stay as they were. A bad entry is refused in its own answer.
@@ -107,7 +105,7 @@ pub fn work_through(
     ensures { run_result result state.new answers.new ≡ run_journal site.now state.old journal.now answers.old }
 {
     let mut words = [UNBUILT; INDEX_SIZE];
-    run_checked(site, &mut words, state, journal, answers)?;
-    journal::run::run(&IndexedSite::new(site, &words), state, journal, answers);
+    let indexed = run_checked(site, &mut words, state, journal, answers)?;
+    journal::run::run(&indexed, state, journal, answers);
     Ok(())
 }

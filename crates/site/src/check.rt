@@ -1,5 +1,5 @@
 // The site check: refusals 1 to 4, each over the whole site before the next. It leaves the index of a site that is worked through.
-ghost use Rattle.std.specs.Prelude.{◌≡◌, ◌≤◌, ◌%◌, length, true, false, IfOk, MatchResult};
+ghost use Rattle.std.specs.Prelude.{◌≡◌, ◌≤◌, length, true, false, IfOk, MatchResult};
 ghost use Rattle.model.specs.Words.{all};
 ghost use Rattle.model.specs.Accept.{in_range};
 ghost use Rattle.model.specs.Calls.{check_site};
@@ -30,7 +30,6 @@ fn index_in_range(records: &[Record], words: &mut Words) -> Result<(), Refusal>
 pub fn check_site(site: &[u8], words: &mut Words) -> Result<(), Refusal>
     ensures value { result ≡ check_site site.now }
     ensures index { IfOk result (λ u. Indexed site.now words.new) }
-    ensures site_len { IfOk result (λ u. length site.now % 32 ≡ 0) }
 {
     if (site.len() % RECORD_SIZE != 0) | (LARGEST_SITE < site.len()) {
         return Err(Refusal::SiteLength);
