@@ -50,6 +50,7 @@ pub fn zone_to_at(site: &IndexedSite, place: Option<usize>) -> Option<usize>
 fn presented(waiting: CredentialId, e: Entry) -> Presented
     ensures { (ss : List (List ℕ)) → find_in (fits result) ss ≡ factor_for waiting e ss }
 {
+    // By a variable, as the borrow checker asks of a field that is an array.
     let value = e.value;
     Presented {
         confirms: (waiting != CredentialId::NONE).then_some(waiting),

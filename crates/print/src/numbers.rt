@@ -2,12 +2,12 @@
 use model::numbers::ANSWER_SIZE;
 
 // The digits 0 to 9 from here on.
-pub const DIGIT_ZERO: u8 = 48;
+pub const DIGIT_ZERO: u8 = b'0';
 
 // The digits A to F as 10 to 15 from here on.
-pub const LETTER_BASE: u8 = 55;
+pub const LETTER_BASE: u8 = b'A' - 10;
 
-pub const LINE_FEED: u8 = 10;
+pub const LINE_FEED: u8 = b'\n';
 
 // Two digits for each byte of an answer.
 pub const LINE_DIGITS: usize = ANSWER_SIZE * 2;

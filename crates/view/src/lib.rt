@@ -3,8 +3,7 @@
 #![tactic(auto)]
 
 ghost use Rattle.std.specs.Prelude.{◌≡◌, length};
-ghost use Rattle.model.specs.Site as Site;
-ghost use Rattle.model.specs.Site.{lookup, find_in};
+ghost use Rattle.model.specs.Site.{records, lookup, find_in};
 ghost use Rattle.model.specs.Calls.{check_site, fresh_result, fresh_state, check_state, run_result, run_journal};
 ghost use Rattle.site.specs.Factor.{fits};
 ghost use Rattle.view.specs.Object.{kind_of, instance_of};
@@ -39,12 +38,11 @@ pub fn find_object(site: &[u8], object: Object) -> &[u8]
 pub struct SiteView<'a> {
     pub bytes: &'a [u8],
     pub records: usize,
-    ghost counted: { records ≡ length (Site.records bytes.now) },
 }
 
 impl<'a> SiteView<'a> {
     pub fn of(site: &'a [u8]) -> SiteView<'a>
-        ensures { (result.bytes ≡ site.entry) × (result.records ≡ length (Site.records site.now)) }
+        ensures { (result.bytes ≡ site.entry) × (result.records ≡ length (records site.now)) }
     {
         SiteView {
             bytes: site,
@@ -53,7 +51,7 @@ impl<'a> SiteView<'a> {
     }
 
     pub fn records(&self) -> usize
-        ensures { result ≡ length (Site.records self.now.bytes.now) }
+        ensures { result ≡ self.now.records }
     {
         self.records
     }
@@ -66,7 +64,7 @@ impl<'a> SiteView<'a> {
 
     // The first factor that fits what is presented, else the empty part.
     pub fn find_factor(&self, factor: Presented) -> &'a [u8]
-        ensures { result.now ≡ find_in (fits factor) (Site.records self.now.bytes.now) }
+        ensures { result.now ≡ find_in (fits factor) (records self.now.bytes.now) }
     {
         lookup::find_factor(self.bytes, factor)
     }

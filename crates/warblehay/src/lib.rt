@@ -89,6 +89,7 @@ pub extern "C" fn warblehay_read_wiegand26(
     let reading = wiegand::read::read_wiegand26(number, count);
     if let Ok(made) = reading {
         *format = made.format;
+        // By a variable, as the borrow checker asks of a field that is an array.
         let octets = made.value;
         *value = octets;
     }
