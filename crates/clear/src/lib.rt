@@ -11,6 +11,7 @@ ghost use Rattle.clear.specs.Clear.{with_first};
 pub extern "C" fn warblehay_clear(index: &mut [u8; 6080], byte: u32, count: usize)
     ensures { index.new ≡ with_first count (byte % 256) index.old }
 {
+    // The remainder is a byte.
     let low = (byte % 256) as u8;
     let end = count.min(index.len());
     index[..end].fill(low);

@@ -12,7 +12,8 @@ pub mod operations; // operations.rt: operations 2 to 5, and outcomes that write
 
 use model::Situation;
 
-// The event to which the order of checks comes in a situation. Where it counts a passage, Zone_To's count has room for one more.
+// The event to which the order of checks comes in a situation. Where it counts a passage, Zone_To's count has room for one more. What does not need
+// that takes situation, event and entry each by itself, as the definitions do.
 #[derive(Clone, Copy)]
 pub struct Event {
     pub v: Situation,

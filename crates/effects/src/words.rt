@@ -26,6 +26,7 @@ pub fn count_kept(granted: bool, failing: bool, most: u8, with: u16, before: u8)
     if granted | (failing & (u16::from(most) <= with)) {
         0
     } else if failing {
+        // Below the most it is a byte.
         with as u8
     } else {
         before

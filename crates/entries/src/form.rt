@@ -10,7 +10,7 @@ use model::numbers::{
 };
 use model::{Entry, Operation};
 
-// The operation of a number, where it has one.
+// The operation of a number, where it has one. An Option, as in the definition: an error of TryFrom would say nothing more.
 pub fn operation_of(n: u8) -> Option<Operation>
     ensures { result ≡ operation_of n }
 {

@@ -1,7 +1,8 @@
 // The records of a site by number, and an index of them that a call keeps on its stack. A record falls into a bucket by what it is looked up by. The
 // index has a link for each record, the next record of its bucket in file order, then a head for each bucket, its first record, and then the first and
 // the last record of each kind. The number of records ends a chain. Above the record's number a link or a head has the tags of the rules from there on
-// in its chain, a bit each, so that a walk for rules ends where none of their tag is left. Nothing else knows where these stand.
+// in its chain, a bit each, so that a walk for rules ends where none of their tag is left. Nothing else knows where these stand. `as` widens a u32, which
+// has no From to usize, and narrows what is known to fit, where try_from would test it again.
 #![tactic(auto)]
 
 ghost use Rattle.std.specs.Prelude.{◌≡◌, [], ◌+◌, ◌*◌, ◌%◌, ◌≤◌, ◌<◌, eqb, length, get_or, if◌then◌else◌};
@@ -39,7 +40,7 @@ const KIND_CLASSES: usize = 8;
 
 pub const INDEX_SIZE: usize = 3040;
 
-// The numbers of an index.
+// The numbers of an index, as one array: memory is fixed, and the function by which the library clears it on the stack is proved for one array.
 pub type Words = [u16; INDEX_SIZE];
 
 // What an index holds before it is built. Its two bytes differ, since a fill with equal bytes becomes a call of memset.
@@ -96,7 +97,7 @@ fn spread(a: u32, b: u32, c: u32, turn: u16) -> Bucket
     Bucket::of(mixed(a, b, c) / SPREAD_SCALE + usize::from(turn) * SPREAD_TURN)
 }
 
-// The bucket of a zone, a point or a credential.
+// The bucket of a zone, a point or a credential. A kind is the byte of a record here: what is hashed is that number.
 pub fn object_bucket(kind: u8, instance: u32) -> Bucket
     ensures { result ≡ object_bucket kind instance }
 {

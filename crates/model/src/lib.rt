@@ -37,7 +37,7 @@ impl RightsId {
     pub const NONE: RightsId = RightsId(NONE);
 }
 
-// The kinds of site records.
+// The kinds of site records. A match names each, so that a new one is refused until every match has it; so with operations.
 #[derive(Clone, Copy)]
 pub enum RecordKind {
     OfZone,

@@ -170,7 +170,7 @@ pub fn put_each<C: Chunk<T, N>, T, const N: usize>(bytes: &mut [u8], items: &[T]
     }
 }
 
-// Whether two runs of bytes are the same.
+// Whether two runs of bytes are the same: `==`, in the words of the definitions.
 #[tactic(auto, using(crate::proofs::Laws::pointwise_same))]
 pub fn same_bytes(a: &[u8], b: &[u8]) -> bool
     ensures { result ≡ same a.now b.now }

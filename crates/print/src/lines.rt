@@ -63,6 +63,7 @@ fn decimal_digit(n: u32) -> u8
     requires { n < 10 }
     ensures { result ≡ digit_zero + n }
 {
+    // Below 10 it is a byte.
     DIGIT_ZERO + (n as u8)
 }
 

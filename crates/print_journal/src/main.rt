@@ -12,7 +12,8 @@ use std::fs::File;
 use std::io;
 use std::io::{Read, Write};
 
-// A byte more than the largest file that is worked through: a larger one fills its buffer, and is turned back by its length.
+// Memory is fixed, with no Vec or String. A byte more than the largest file that is worked through: a larger one fills its buffer, and is turned back by
+// its length.
 const SITE_ROOM: usize = LARGEST_SITE + 1;
 
 const JOURNAL_ROOM: usize = LARGEST_JOURNAL + 1;

@@ -1,4 +1,5 @@
-// Site and state records, entries and answers between bytes and structs by value: each field is read by one function and written by one.
+// Site and state records, entries and answers between bytes and structs by value: each field is read by one function, whose contract is the field's definition,
+// and written by one.
 #![tactic(auto)]
 
 ghost use Rattle.std.specs.Prelude.{◌≡◌, ◌+◌, ◌≤◌, ℕ, List};

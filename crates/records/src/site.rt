@@ -18,6 +18,7 @@ pub fn kind_of<P: Part>(part: P) -> u8
     part.number_at(layout::KIND)
 }
 
+// The kind, where the byte names one. An Option, as in the definition: an error of TryFrom would say nothing more.
 pub fn record_kind_of<P: Part>(part: P) -> Option<RecordKind>
     ensures { result ≡ Site.record_kind (P.bytes part) }
 {

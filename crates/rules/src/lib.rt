@@ -41,7 +41,7 @@ pub struct Asked {
     pub time: u32,
 }
 
-// The day of the week of a time, 0 for Monday.
+// The day of the week of a time, 0 for Monday. A remainder is known to fit what `as` narrows it to.
 #[tactic(auto, unfolding(model::specs::Checks::weekday))]
 pub fn weekday_of(time: u32) -> u8
     ensures value { result ≡ weekday time }

@@ -11,7 +11,7 @@ use model::Refusal;
 use model::numbers::{LARGEST_SITE, RECORD_SIZE};
 use records::Record;
 
-// Refusal 2. Ranges and the index take one walk, from the last record to the first.
+// Refusal 2. Ranges and the index take one walk, from the last record to the first, by number: a record goes into the index by its number.
 fn index_in_range(records: &[Record], words: &mut Words) -> Result<(), Refusal>
     requires { length records.now ≤ most_records }
     ensures { MatchResult result (λ u. (all in_range records.now ≡ true) × IndexedFrom 0 records.now words.new) (λ r. (all in_range records.now ≡ false) × (r ≡ Refusal.SiteField)) }

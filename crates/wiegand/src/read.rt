@@ -5,7 +5,7 @@ ghost use Rattle.wiegand.specs.Wiegand.{bits, facility_of, card_of, first_parity
 use crate::{FORMAT_WIEGAND26, Factor, NotTwentySixBits, WIEGAND26_BITS, WIEGAND26_NUMBERS};
 use model::numbers::FORMAT_ERROR;
 
-// The number of an outcome in document 02.
+// The number of an outcome in document 02. Its one error has no variant that could be the number.
 pub fn number_of(reading: Result<Factor, NotTwentySixBits>) -> u32
     ensures { result ≡ returned_number reading }
 {
@@ -44,7 +44,7 @@ fn has_first_parity(number: u32) -> bool
     (number / 8192 % 8192).count_ones() % 2 == 0
 }
 
-// Whether the last 13 have an odd number.
+// Whether the last 13 have an odd number. Two functions: each is a definition, of other bits and another parity.
 #[tactic(auto, unfolding(crate::specs::Wiegand::is_even, crate::specs::Wiegand::is_odd), using(crate::proofs::Fields::last_parity_law))]
 fn has_last_parity(number: u32) -> bool
     ensures { result ≡ last_parity (bits 26 number) }
@@ -52,6 +52,7 @@ fn has_last_parity(number: u32) -> bool
     (number % 8192).count_ones() % 2 != 0
 }
 
+// Facility and card. A remainder is known to fit what `as` narrows it to.
 #[tactic(auto, using(crate::proofs::Fields::facility_number))]
 fn facility_of(number: u32) -> u8
     ensures { result ≡ facility_of (bits 26 number) }
