@@ -48,6 +48,9 @@ module _ (q : List ℕ → Bool) (ss : List (List ℕ)) where
       let z : j - 0 ≡ j = omega arith in
       (omega (arith, h.1), rw z at h.2, rw z at h.3)
 
+  pub found_within : (j : ℕ) → place_from q 0 ss ≡ Some j → j < length ss
+  found_within j e = (found_at j e).0
+
   pub found_nowhere : place_from q 0 ss ≡ None → find_in q ss ≡ []
   unfolding First
   found_nowhere e = let h : First q 0 ss None = rw e at (first q 0 ss) in h.0

@@ -103,7 +103,7 @@ pub fn none_or_exists<O: Placed>(site: &IndexedSite, object: O) -> bool
 }
 
 // The first factor that fits what is presented.
-#[tactic(auto, using(crate::proofs::Places::found_at, crate::proofs::Places::found_nowhere))]
+#[tactic(auto, using(crate::proofs::Places::found_at, crate::proofs::Places::found_within, crate::proofs::Places::found_nowhere))]
 pub fn find_factor<'s>(site: &IndexedSite<'s, '_>, p: Presented) -> Option<&'s Record>
     ensures { unwrap_or (option_copied result) [] ≡ find_in (fits_presented p) (records site.now) }
 {
