@@ -150,7 +150,7 @@ pub fn put_group<const N: usize>(bytes: &mut [u8], i: usize, part: &[u8; N])
     put_bytes(bytes, i * N, part);
 }
 
-// What makes N bytes of an item.
+// What makes N bytes of an item. A trait and no closure: of a closure `put_each` could only promise that some results of it were written.
 pub trait Chunk<T, const N: usize> {
     ghost chunk: { T → List ℕ };
 
