@@ -1,7 +1,7 @@
 // The calls, on slices. Every call checks the site anew, and nothing is written before all checks have passed.
 #![tactic(auto, unfolding(model::specs::Calls::is_worked, model::specs::Calls::fresh_returned, model::specs::Calls::fresh_state, model::specs::Calls::check_state, model::specs::Calls::run_returned, model::specs::Calls::run_journal))]
 
-ghost use Rattle.std.specs.Prelude.{◌≡◌, ◌*◌, ◌/◌, ◌%◌, length, IfOk};
+ghost use Rattle.std.specs.Prelude.{◌≡◌, IfOk};
 ghost use Rattle.model.specs.Calls.{number, check_site, fresh_returned, fresh_result, fresh_state, check_state, run_returned, run_result, run_journal};
 ghost use Rattle.index.specs.Index.{Indexed};
 
@@ -31,8 +31,6 @@ pub fn check_site(site: &[u8]) -> Result<(), Refusal>
 fn fresh_checked(site: &[u8], words: &mut Words, state: &[u8]) -> Result<(), Refusal>
     ensures value { result ≡ fresh_returned site.now state.now }
     ensures index { IfOk result (λ u. Indexed site.now words.new) }
-    ensures site_len { IfOk result (λ u. length site.now % 32 ≡ 0) }
-    ensures state_len { IfOk result (λ u. length state.now ≡ length site.now) }
 {
     site::check::check_site(site, words)?;
     if state.len() != site.len() {
@@ -42,6 +40,7 @@ fn fresh_checked(site: &[u8], words: &mut Words, state: &[u8]) -> Result<(), Ref
 }
 
 // The fresh state: refusals 1 to 5; turned back, the state stays as it was.
+#[tactic(auto, unfolding(model::specs::Calls::is_worked, model::specs::Calls::fresh_state), using(crate::proofs::Laws::fresh_lengths))]
 pub fn make_fresh(site: &[u8], state: &mut [u8]) -> Result<(), Refusal>
     ensures { fresh_result result state.new ≡ fresh_state site.now state.old }
 {
@@ -52,11 +51,10 @@ pub fn make_fresh(site: &[u8], state: &mut [u8]) -> Result<(), Refusal>
 }
 
 // Refusals 1 to 6.
+#[tactic(auto, unfolding(model::specs::Calls::is_worked, model::specs::Calls::check_state), using(crate::proofs::Laws::fresh_lengths))]
 fn state_checked(site: &[u8], words: &mut Words, state: &[u8]) -> Result<(), Refusal>
     ensures value { result ≡ check_state site.now state.now }
     ensures index { IfOk result (λ u. Indexed site.now words.new) }
-    ensures site_len { IfOk result (λ u. length site.now % 32 ≡ 0) }
-    ensures state_len { IfOk result (λ u. length state.now ≡ length site.now) }
 {
     fresh_checked(site, words, state)?;
     if !state::well::is_well_formed(&IndexedSite::new(site, words), state) {
@@ -83,9 +81,6 @@ fn run_checked(
 ) -> Result<(), Refusal>
     ensures value { result ≡ run_returned site.now state.now journal.now answers.now }
     ensures index { IfOk result (λ u. Indexed site.now words.new) }
-    ensures site_len { IfOk result (λ u. length site.now % 32 ≡ 0) }
-    ensures state_len { IfOk result (λ u. length state.now ≡ length site.now) }
-    ensures answers_len { IfOk result (λ u. length answers.now ≡ length journal.now / 24 * 16) }
 {
     state_checked(site, words, state)?;
     if (journal.len() % ENTRY_SIZE != 0) | (LARGEST_JOURNAL < journal.len()) {
@@ -98,6 +93,7 @@ fn run_checked(
 }
 
 // The journal run: refusals 1 to 6, 10, 11; turned back, state and answers stay as they were. A bad entry is refused in its own answer.
+#[tactic(auto, unfolding(model::specs::Calls::is_worked, model::specs::Calls::run_journal), using(crate::proofs::Laws::run_passed))]
 pub fn work_through(
     site: &[u8],
     state: &mut [u8],

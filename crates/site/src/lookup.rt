@@ -32,7 +32,7 @@ pub fn place_of<O: Object>(site: &[u8], object: O) -> Option<usize>
         .position(|part| is_at(part, object))
 }
 
-// A record that is found, else the empty part.
+// A record that is found, else the empty part: a lookup promises `lookup`, which is the empty list where there is none.
 fn part_of<'a>(part: Option<&'a Record>) -> &'a [u8]
     ensures { result.now ≡ unwrap_or (option_copied part.entry) [] }
 {

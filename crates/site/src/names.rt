@@ -8,7 +8,7 @@ ghost use Rattle.model.specs.declared.RecordKind.TheVariants.{OfPoint, OfRule};
 
 use super::indexed::{exists, none_or_exists};
 use index::IndexedSite;
-use model::numbers::ACCESS_ZONE;
+use model::numbers::LOCATION_ZONE;
 use model::{CredentialId, PointId, RecordKind, ZoneId};
 use records::Record;
 use records::site::{
@@ -31,7 +31,7 @@ fn location_exists(site: &IndexedSite, part: &Record) -> bool
     if is_everywhere(part) {
         return true;
     }
-    if location_kind_of(part) == ACCESS_ZONE {
+    if location_kind_of(part) == LOCATION_ZONE {
         return exists(site, ZoneId(location_of(part)));
     }
     exists(site, PointId(location_of(part)))

@@ -4,14 +4,14 @@ ghost use Rattle.model.specs.Site.{record_kind};
 ghost use Rattle.model.specs.Accept.{clear, zone_in_range, point_in_range, location_in_range, rule_in_range, credential_in_range, factor_in_range, in_range_as, in_range};
 
 use model::numbers::{
-    ACCESS_POINT, ACCESS_ZONE, FACTOR_DESTROYED, FORMAT_ERROR, LARGEST_DISABLE, LARGEST_THREAT,
-    MINUTES_OF_DAY, MODE_DENY_ALL, NONE, PASSBACK_SOFT, ROLE_CONFIRMING, ROLE_IDENTIFYING,
-    TWO_FACTORS,
+    FACTOR_DESTROYED, FORMAT_ERROR, LARGEST_DISABLE, LARGEST_THREAT, LOCATION_EVERYWHERE,
+    LOCATION_POINT, LOCATION_ZONE, MINUTES_OF_DAY, MODE_DENY_ALL, NONE, PASSBACK_SOFT,
+    ROLE_CONFIRMING, ROLE_IDENTIFYING, TWO_FACTORS,
 };
-use model::{RecordKind, Zone, layout};
+use model::{RecordKind, Zone, ZoneId, layout};
 use records::{FromPart, Record, site};
 
-// Whether n bytes are zero.
+// Whether n bytes are zero. The compiler takes their bits together by whole words, which is quick: every record's check asks it.
 #[tactic(auto, using(crate::proofs::Clear::clear_all))]
 pub fn is_clear(part: &[u8], at: usize, n: usize) -> bool
     requires { at + n ≤ length part.now }
@@ -44,7 +44,7 @@ fn point_in_range(part: &Record) -> bool
         & ((1 <= factors_wanted) & (factors_wanted <= TWO_FACTORS))
         & (zone_to.0 <= NONE)
         & (zone_from.0 <= NONE)
-        & ((zone_to.0 == NONE) | (zone_to.0 != zone_from.0))
+        & ((zone_to == ZoneId::NONE) | (zone_to != zone_from))
         & (site::threat_level_of(part) <= LARGEST_THREAT)
         & is_clear(part, layout::POINT_SPARE, layout::POINT_SPARE_SIZE)
 }
@@ -56,9 +56,9 @@ fn location_in_range(part: &Record) -> bool
     let kind = site::location_kind_of(part);
     let location = site::location_of(part);
     if site::is_everywhere(part) {
-        return (kind == 0) & (location == 0);
+        return (kind == LOCATION_EVERYWHERE) & (location == 0);
     }
-    ((ACCESS_ZONE <= kind) & (kind <= ACCESS_POINT)) & (location < NONE)
+    ((LOCATION_ZONE <= kind) & (kind <= LOCATION_POINT)) & (location < NONE)
 }
 
 #[tactic(auto, unfolding(model::specs::Accept::rule_in_range))]
