@@ -42,6 +42,7 @@ fn fresh_checked<'s, 'w>(
 }
 
 // The fresh state: refusals 1 to 5; turned back, the state stays as it was.
+#[tactic(auto, unfolding(model::specs::Calls::is_worked, model::specs::Calls::fresh_state), using(crate::proofs::Laws::fresh_lengths))]
 pub fn make_fresh(site: &[u8], state: &mut [u8]) -> Result<(), Refusal>
     ensures { fresh_result result state.new ≡ fresh_state site.now state.old }
 {
@@ -96,6 +97,7 @@ fn run_checked<'s, 'w>(
 }
 
 // The journal run: refusals 1 to 6, 10, 11; turned back, state and answers stay as they were. A bad entry is refused in its own answer.
+#[tactic(auto, unfolding(model::specs::Calls::is_worked, model::specs::Calls::run_journal), using(crate::proofs::Laws::run_passed))]
 pub fn work_through(
     site: &[u8],
     state: &mut [u8],

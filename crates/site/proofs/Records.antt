@@ -1,5 +1,6 @@
 -- The records of a site: what is found of them or is not, what passes, and what a rule in range names.
-use Rattle.std.specs.Prelude.{if◌then◌else◌, cond, Some, find}
+use denote.Ref.{Bor}
+use Rattle.std.specs.Prelude.{if◌then◌else◌, cond, Option, Some, find, option_copied}
 use Rattle.std.specs.Option.{unwrap_or}
 use Prim.Native.Nat.{ℕ, zero, suc, ◌+◌, ◌<◌}
 use Rattle.std.specs.List.{list_all, list_any, range_with_len}
@@ -31,6 +32,11 @@ find_is q (s ∷ ss) = go (q s) (find_is q ss)
     go : (c : Bool) → unwrap_or (find q ss) [] ≡ find_in q ss → unwrap_or (cond c (Some s) (find q ss)) [] ≡ if c then s else find_in q ss
     go true h = refl
     go false h = h
+
+-- The part that is handed back of what is found.
+pub part_found : {part : List ℕ} {xs ss : List (List ℕ)} (q : List ℕ → Bool) (o : Option (Bor (List ℕ)))
+    → part ≡ unwrap_or (option_copied o) [] → option_copied o ≡ find q xs → xs ≡ ss → part ≡ find_in q ss
+part_found {ss = ss} q o p e r = rw (p, e, r) (find_is q ss)
 
 -- What the library's `all` answers.
 pub all_is : {A : Type 0} (q : A → Bool) (xs : List A) → list_all q xs ≡ all q xs

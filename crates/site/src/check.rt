@@ -17,6 +17,7 @@ fn index_in_range(records: &[Record], words: &mut Words) -> Result<(), Refusal>
     ensures { MatchResult result (λ u. (all in_range records.now ≡ true) × IndexedFrom 0 records.now words.new) (λ r. (all in_range records.now ≡ false) × (r ≡ Refusal.SiteField)) }
 {
     index::empty(records, words);
+    // By number, from the last: `insert` puts the i-th before the later ones.
     for i in (0..records.len()).rev() {
         if !range::in_range(&records[i]) {
             return Err(Refusal::SiteField);
