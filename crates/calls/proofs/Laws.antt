@@ -9,12 +9,7 @@ use Rattle.model.specs.Calls.{is_worked, fresh_returned, run_returned, run_journ
 use Rattle.model.specs.Lists.{run_on}
 use Rattle.model.proofs.Entries.{lengths, run_accepted}
 
--- Site and state of whole records, one as long as the other.
-pub fresh_lengths : (site state : List ℕ) → Ok tt ≡ fresh_returned site state → (length site % 32 ≡ 0) × (length state ≡ length site)
-unfolding is_worked
-fresh_lengths site state e = lengths site state (rw (← e))
-
--- The same, and answers of 16 bytes for each entry.
+-- Site and state of whole records, one as long as the other, and answers of 16 bytes for each entry.
 pub run_lengths : (site state journal answers : List ℕ) → is_worked (run_returned site state journal answers) ≡ true →
     ((length site % 32 ≡ 0) × (length state ≡ length site)) × (length answers ≡ length journal / 24 * 16)
 unfolding run_on run_journal

@@ -1,7 +1,7 @@
 // The calls, on slices. Every call checks the site anew, and nothing is written before all checks have passed.
 #![tactic(auto, unfolding(model::specs::Calls::is_worked, model::specs::Calls::fresh_returned, model::specs::Calls::fresh_state, model::specs::Calls::check_state, model::specs::Calls::run_returned, model::specs::Calls::run_journal), using(crate::proofs::Laws::fresh_whole, crate::proofs::Laws::run_whole))]
 
-ghost use Rattle.std.specs.Prelude.{◌≡◌, ◌*◌, ◌/◌, ◌%◌, length, MatchResult, Ok, Err};
+ghost use Rattle.std.specs.Prelude.{◌≡◌, MatchResult, Ok, Err};
 ghost use Rattle.model.specs.Calls.{number, check_site, fresh_returned, fresh_result, fresh_state, check_state, run_returned, run_result, run_journal};
 
 use index::{INDEX_SIZE, IndexedSite, UNBUILT, Words};
@@ -42,7 +42,6 @@ fn fresh_checked<'s, 'w>(
 }
 
 // The fresh state: refusals 1 to 5; turned back, the state stays as it was.
-#[tactic(auto, unfolding(model::specs::Calls::is_worked, model::specs::Calls::fresh_state), using(crate::proofs::Laws::fresh_lengths))]
 pub fn make_fresh(site: &[u8], state: &mut [u8]) -> Result<(), Refusal>
     ensures { fresh_result result state.new ≡ fresh_state site.now state.old }
 {
@@ -97,7 +96,6 @@ fn run_checked<'s, 'w>(
 }
 
 // The journal run: refusals 1 to 6, 10, 11; turned back, state and answers stay as they were. A bad entry is refused in its own answer.
-#[tactic(auto, unfolding(model::specs::Calls::is_worked, model::specs::Calls::run_journal), using(crate::proofs::Laws::run_passed))]
 pub fn work_through(
     site: &[u8],
     state: &mut [u8],

@@ -11,13 +11,13 @@ use model::Refusal;
 use model::numbers::{LARGEST_SITE, RECORD_SIZE};
 use records::Record;
 
-// Refusal 2. Ranges and the index take one walk, from the last record to the first, by number: a record goes into the index by its number.
+// Refusal 2. Ranges and the index take one walk, from the last record to the first, by number: `insert` puts the i-th
+// record before the later ones.
 fn index_in_range(records: &[Record], words: &mut Words) -> Result<(), Refusal>
     requires { length records.now ≤ most_records }
     ensures { MatchResult result (λ u. (all in_range records.now ≡ true) × IndexedFrom 0 records.now words.new) (λ r. (all in_range records.now ≡ false) × (r ≡ Refusal.SiteField)) }
 {
     index::empty(records, words);
-    // By number, from the last: `insert` puts the i-th before the later ones.
     for i in (0..records.len()).rev() {
         if !range::in_range(&records[i]) {
             return Err(Refusal::SiteField);

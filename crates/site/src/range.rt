@@ -11,7 +11,7 @@ use model::numbers::{
 use model::{RecordKind, Zone, ZoneId, layout};
 use records::{FromPart, Record, site};
 
-// Whether n bytes are zero: all taken together, in fewer steps than one by one until one is not.
+// Whether n bytes are zero. Their bits are taken together, by whole words, which is quick: the check of every record asks it.
 #[tactic(auto, using(crate::proofs::Clear::clear_all))]
 pub fn is_clear(part: &[u8], at: usize, n: usize) -> bool
     requires { at + n ≤ length part.now }
