@@ -24,7 +24,7 @@ const CASES: usize = 20_000;
 const MOST_RECORDS: usize = MOST_SITE_BYTES / RECORD_LENGTH;
 
 /// The index's own text, beside which the numbers here are compared.
-const INDEX: &str = "../../crates/index/src/lib.rt";
+const INDEX: &str = "../../crates/index/src";
 
 /// A colliding site of about 30 records, or at times of many.
 fn colliding_site(random: &mut Random, base: u32) -> Vec<u8> {
@@ -232,9 +232,13 @@ fn a_state_that_names_a_missing_object() {
 /// Where the index changes its numbers, these sites would no longer collide.
 #[test]
 fn the_numbers_are_those_of_the_index() {
-    let path = Path::new(env!("CARGO_MANIFEST_DIR")).join(INDEX);
-    let text = fs::read_to_string(path).expect("the index is there");
-    let values: BTreeSet<u64> = text.lines().filter_map(value_of_constant).collect();
+    let folder = Path::new(env!("CARGO_MANIFEST_DIR")).join(INDEX);
+    let mut values = BTreeSet::new();
+    for file in fs::read_dir(folder).expect("the index is there") {
+        let path = file.expect("the index can be listed").path();
+        let text = fs::read_to_string(path).expect("a file of the index can be read");
+        values.extend(text.lines().filter_map(value_of_constant));
+    }
     let numbers = BTreeSet::from([
         BUCKETS,
         DIVISOR,
