@@ -2,6 +2,8 @@
 use Prim.Native.Nat.{ℕ}
 use mathlib.Core.Path.{◌≡◌, refl}
 use mathlib.Core.List.{List, [], ◌∷◌, ◌++◌}
+use Rattle.model.specs.Step.{refused_number}
+use Rattle.model.specs.declared.EntryRefusal.TheVariants.{Form, NoObject, Count}
 use Rattle.cases.proofs.Change.{Field}
 use Rattle.cases.proofs.Fields.{flags, most, relinquish, zone_to_field, tag, failures, locked, waiting_for, last_point, in_zone, entered}
 use Rattle.cases.proofs.Bytes.{counted, entry, state, passing, inside, from_state, answered, worked, bytes}
@@ -133,6 +135,8 @@ servicing = record { locks = refl; locks_again = refl; unlocks = refl; unlocks_w
 -- ── refusals
 
 pub record Refusals : Type 0 where
+  -- "7, in an answer", "8, in an answer", "9, in an answer".
+  numbers : refused_number Form ∷ refused_number NoObject ∷ refused_number Count ∷ [] ≡ 7 ∷ 8 ∷ 9 ∷ []
   -- "7 operation unknown, field .. out of range": 0 and 6; a format 0 at no point. "8 no such object": of any other kind there is one.
   refused :
       counting
@@ -145,4 +149,4 @@ pub record Refusals : Type 0 where
 
 pub refusals : Refusals
 unfolding bytes counting
-refusals = record { refused = refl }
+refusals = record { numbers = refl; refused = refl }
