@@ -2,7 +2,7 @@
 use Rattle.std.specs.Prelude.{if◌then◌else◌, Option, Some, None}
 use Rattle.std.specs.Option.{unwrap_or, option_or}
 use Prim.Native.Nat.{ℕ}
-use mathlib.Core.Path.{◌≡◌, refl, sym, ◌∙◌}
+use mathlib.Core.Path.{◌≡◌, refl}
 use mathlib.Core.Bool.{Bool, true, false, ◌&&◌}
 use lib.Dec.{eqb}
 use borrow.Author.Tests.{eqb-true, eqb-false, eq-eqb}
@@ -104,16 +104,31 @@ module _ (v : Situation) (rules : Verdict) (e : Entry) where
       go true g = g
       go false g = rest_none _ (passage v) g
 
-  pub event_room : Room v (event_of v rules e)
-  unfolding counts passage entitlement event_of authentication_of
-  event_room h q =
-      let x = event_of v rules e in
+  -- Where no step gave an event, step 11 has room.
+  room : (o : Option ℕ) → Denies o → (o ≡ None → passage v ≡ None) → Room v (unwrap_or o n.granted)
+  unfolding counts passage
+  room o s through h q =
+      let x = unwrap_or o n.granted in
       let a = and_left (eqb x n.granted && v.point.count_adjust) v.zone_to.counting h in
       let b = and_right (eqb x n.granted && v.point.count_adjust) v.zone_to.counting h in
       let d = and_right (eqb x n.granted) v.point.count_adjust a in
       let g = eqb-true x n.granted (and_left (eqb x n.granted) v.point.count_adjust a) in
-      let late = entitlement v rules e in
-      let s = or_denies _ late (authentication_denies (authentication_of v e) (disabled_denies v.factor_disable)) (or_denies _ (permission v rules e) (validity_denies (validity_of v e)) permission_denies) in
-      let p = through_passage (rest_none _ (permission v rules e) (rest_none _ late (none_given _ s g))) in
-      let w : Some n.denied_other ≡ None = rw (d, b, eq-eqb v.count_to n.largest_count q) at p in
+      let w : Some n.denied_other ≡ None = rw (d, b, eq-eqb v.count_to n.largest_count q) at (through (none_given o s g)) in
       cc
+
+  entitlement_denies : Denies (entitlement v rules e)
+  unfolding entitlement
+  entitlement_denies = or_denies _ (permission v rules e) (validity_denies (validity_of v e)) permission_denies
+
+  through_entitlement : entitlement v rules e ≡ None → passage v ≡ None
+  unfolding entitlement
+  through_entitlement h = through_passage (rest_none _ (permission v rules e) h)
+
+  pub entitlement_room : Room v (unwrap_or (entitlement v rules e) n.granted)
+  entitlement_room = room (entitlement v rules e) entitlement_denies through_entitlement
+
+  pub event_room : Room v (event_of v rules e)
+  unfolding event_of authentication_of
+  event_room =
+      room _ (or_denies _ (entitlement v rules e) (authentication_denies (authentication_of v e) (disabled_denies v.factor_disable)) entitlement_denies)
+      (λ h. through_entitlement (rest_none _ (entitlement v rules e) h))
