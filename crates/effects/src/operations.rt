@@ -2,7 +2,7 @@
 ghost use Rattle.std.specs.Prelude.{◌≡◌, ◌≤◌, SomeIff};
 ghost use Rattle.model.specs.Numbers as n;
 ghost use Rattle.model.specs.Numbers.{not_refused};
-ghost use Rattle.model.specs.Step.{no_answer, unchanged, refused_number, refuse, count_outcome, adjusted, adjust_outcome, disable_after, disable_outcome, locks, service_after, service_outcome};
+ghost use Rattle.model.specs.Step.{no_answer, unchanged, refuse, count_outcome, adjusted, adjust_outcome, disable_after, disable_outcome, locks, service_after, service_outcome};
 
 use crate::words::next_tag;
 use model::numbers::{
@@ -44,10 +44,10 @@ pub fn unchanged(a: Answer) -> Outcome
 
 // An answer that refuses.
 #[tactic(auto, unfolding(model::specs::Step::refuse))]
-pub fn refuse(r: EntryRefusal) -> Outcome
-    ensures { result ≡ refuse (refused_number r) }
+pub fn refuse(n: u8) -> Outcome
+    ensures { result ≡ refuse n }
 {
-    unchanged(no_answer(r as u8, 0, 0))
+    unchanged(no_answer(n, 0, 0))
 }
 
 // A factor read at a point that is out of service: the tag as held, and Zone_To's count.
@@ -91,7 +91,7 @@ pub fn adjust_outcome(e: Entry, n: u32) -> Outcome
     ensures { result ≡ adjust_outcome e n }
 {
     match adjusted_by(n, e.amount) {
-        None => refuse(EntryRefusal::Count),
+        None => refuse(EntryRefusal::Count as u8),
         Some(count) => count_outcome(e, count),
     }
 }

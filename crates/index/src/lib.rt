@@ -23,9 +23,7 @@ pub use bucket::{Below, Bucket, Class, TAGS};
 pub use chain::Chain;
 pub use indexed::{IndexedSite, Keyed, LONG_CHAIN, Sought};
 use model::layout::FACTOR_VALUE;
-use model::numbers::{
-    ACCESS_RULE, AUTHENTICATION_FACTOR, LOCATION_EVERYWHERE, MODULUS, ROLE_IDENTIFYING,
-};
+use model::numbers::{ACCESS_RULE, AUTHENTICATION_FACTOR, LOCATION_EVERYWHERE, ROLE_IDENTIFYING};
 use octets::Number;
 use records::Record;
 use records::site::{
@@ -118,14 +116,8 @@ fn factor_bucket(format: u8, part: &[u8], at: usize, owner: u32) -> Bucket
     requires { at + 8 ≤ length part.now }
     ensures { result ≡ factor_bucket format (field at 4 part.now) (field (at + 4) 4 part.now) owner }
 {
-    let words = u64::get(part, at);
     let turn = u16::from(format) + u16::from(AUTHENTICATION_FACTOR);
-    spread(
-        (words % MODULUS) as u32,
-        (words / MODULUS) as u32,
-        owner,
-        turn,
-    )
+    spread(u32::get(part, at + 4), u32::get(part, at), owner, turn)
 }
 
 // The same of a value by itself.

@@ -131,7 +131,7 @@ fn decided(site: &IndexedSite, state: &[u8], e: Entry) -> Result<Decided, EntryR
 fn refused_as(r: EntryRefusal) -> Decided
     ensures { result ≡ refused_as r }
 {
-    at_object(operations::refuse(r), None)
+    at_object(operations::refuse(r as u8), None)
 }
 
 #[tactic(auto, using(crate::proofs::Decisions::decided_outcome, crate::proofs::Decisions::stepped))]

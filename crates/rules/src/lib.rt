@@ -13,7 +13,7 @@ use index::{Class, IndexedSite};
 use model::layout::{RULE_DAY_MONDAY, RULE_DAY_SUNDAY};
 use model::numbers::{
     ACCESS_RULE, DAYS_OF_WEEK, LOCATION_EVERYWHERE, LOCATION_POINT, LOCATION_ZONE, MINUTES_OF_DAY,
-    NONE, SECONDS_OF_DAY, SECONDS_OF_MINUTE,
+    SECONDS_OF_DAY, SECONDS_OF_MINUTE,
 };
 use model::{PointId, RightsId, Verdict, ZoneId};
 use records::Record;
@@ -77,11 +77,11 @@ pub fn is_enabled_rule(part: &Record, first: RightsId, second: RightsId) -> bool
     if kind_of(part) != ACCESS_RULE {
         return false;
     }
-    let instance = instance_of(part);
-    if (instance != first.0) & (instance != second.0) {
+    let rights = RightsId(instance_of(part));
+    if (rights != first) & (rights != second) {
         return false;
     }
-    (instance != NONE) & is_enabled(part)
+    (rights != RightsId::NONE) & is_enabled(part)
 }
 
 // Whether a rule holds at a point with a Zone_To. The location is read only where its kind can fit.
@@ -93,8 +93,8 @@ pub fn location_fits(part: &Record, point: PointId, to: ZoneId) -> bool
         return true;
     }
     match location_kind_of(part) {
-        LOCATION_POINT => location_of(part) == point.0,
-        LOCATION_ZONE => (to != ZoneId::NONE) && (location_of(part) == to.0),
+        LOCATION_POINT => PointId(location_of(part)) == point,
+        LOCATION_ZONE => (to != ZoneId::NONE) && (ZoneId(location_of(part)) == to),
         _ => false,
     }
 }

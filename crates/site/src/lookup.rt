@@ -87,7 +87,7 @@ fn is_confirming(part: &Record, credential: CredentialId, p: Presented) -> bool
     ensures { result ≡ confirming credential p.format p.value part.now }
 {
     (kind_of(part) == AUTHENTICATION_FACTOR)
-        & (instance_of(part) == credential.0)
+        & (CredentialId(instance_of(part)) == credential)
         & (role_of(part) == ROLE_CONFIRMING)
         & is_presented(part, p)
 }
