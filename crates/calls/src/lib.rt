@@ -26,7 +26,7 @@ pub fn check_site(site: &[u8]) -> Result<(), Refusal>
     site::check::check_site(site, &mut words)
 }
 
-// Refusals 1 to 5; else the site with its index.
+// Refusals 1 to 5; else the site with its index. Site and words go together until that is made; state, journal and answers are lent as C lends them.
 fn fresh_checked<'s, 'w>(
     site: &'s [u8],
     words: &'w mut Words,

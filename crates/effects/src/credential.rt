@@ -63,7 +63,7 @@ pub fn days_after(v: Situation, e: Entry, x: u16) -> u16
     }
 }
 
-// A wrong code or one that came too late, of a credential that counts them.
+// A wrong code or one that came too late, of a credential that counts them. It and what follows are definitions of their own beside those of a point's failures.
 #[tactic(auto, unfolding(model::specs::Effects::is_wrong_try))]
 pub fn is_wrong_try(v: Situation, x: u16) -> bool
     ensures { result ≡ is_wrong_try v x }

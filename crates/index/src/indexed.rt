@@ -45,7 +45,8 @@ fn place_among<S: Sought>(records: &[Record], sought: S) -> Option<usize>
     records.iter().position(|part| sought.fits(part))
 }
 
-// A site whose records are all in its index, seen as its bytes. That they are whole records is not of the type: the lookups ask it of no caller.
+// A site whose records are all in its index, seen as its bytes. That they are whole records, and a state as long, is not of the type: the lookups ask it of no
+// caller.
 #[derive(Drop)]
 pub struct IndexedSite<'s, 'w> {
     site: &'s [u8],

@@ -1,8 +1,8 @@
 // The records of a site by number, and an index of them that a call keeps on its stack. A record falls into a bucket by what it is looked up by. The
 // index has a link for each record, the next record of its bucket in file order, then a head for each bucket, its first record, and then the first and
-// the last record of each kind. The number of records ends a chain. Above the record's number a link or a head has the tags of the rules from there on
-// in its chain, a bit each, so that a walk for rules ends where none of their tag is left. Nothing else knows where these stand. `as` widens a u32, which
-// has no From to usize, and narrows what is known to fit, where try_from would test it again.
+// the last record of each kind. The number of records ends a chain: it bounds the slices too, and fits the word, as an Option would not. Above the record's
+// number a link or a head has the tags of the rules from there on in its chain, a bit each, so that a walk for rules ends where none of their tag is left.
+// Nothing else knows where these stand. `as` widens a u32, which has no From to usize, and narrows what is known to fit, where try_from would test it again.
 #![tactic(auto)]
 
 ghost use Rattle.std.specs.Prelude.{◌≡◌, [], ◌+◌, ◌*◌, ◌%◌, ◌≤◌, ◌<◌, eqb, length, get_or, if◌then◌else◌};
@@ -58,7 +58,8 @@ const SPREAD_TURN: usize = 204;
 // A class is chosen by two bits more than a bucket.
 const CLASS_SCALE: usize = 262144;
 
-// Where a record goes: its bucket, and the bit of its tag, where it is a rule.
+// Where a record goes: its bucket, and the bit of its tag, where it is a rule. That it is the slot of a record (`Slotted`) is no part of it: the type would
+// name the record.
 #[derive(Clone, Copy)]
 pub struct Slot {
     pub bucket: Bucket,
@@ -95,7 +96,7 @@ fn spread(a: u32, b: u32, c: u32, turn: u16) -> Bucket
     Bucket::of(mixed(a, b, c) / SPREAD_SCALE + usize::from(turn) * SPREAD_TURN)
 }
 
-// The bucket of a zone, a point or a credential. A kind is the byte of a record here: what is hashed is that number.
+// The bucket of a zone, a point or a credential. A kind is the byte of a record here and below: what is hashed is that number.
 pub fn object_bucket(kind: u8, instance: u32) -> Bucket
     ensures { result ≡ object_bucket kind instance }
 {
@@ -127,6 +128,7 @@ pub fn value_bucket(format: u8, value: [u8; 8], owner: u32) -> Bucket
     factor_bucket(format, &value, 0, owner)
 }
 
+// 0 stands for no credential in what is hashed, as in the definition.
 #[tactic(auto, unfolding(crate::specs::Index::owner))]
 fn owner_of(part: &Record) -> u32
     ensures { result ≡ Index.owner part.now }
@@ -183,7 +185,7 @@ fn kind_class(kind: u8) -> usize
     usize::from(kind) % KIND_CLASSES
 }
 
-// The chain of a bucket, and what of it follows the i-th record.
+// The chain of a bucket, and what of it follows the i-th record, by the words alone; a site with its index has `head` and `link`.
 pub fn head_of(words: &Words, bucket: Bucket) -> Chain
     ensures { result.0 ≡ Index.head bucket words.now }
 {
@@ -197,7 +199,7 @@ pub fn link_of(words: &Words, i: usize) -> Chain
     Chain(words[i])
 }
 
-// An index of no record yet: every bucket ends at once.
+// An index of no record yet: every bucket ends at once. An index half built has no type of its own, since each step states another number of records.
 pub fn empty(records: &[Record], words: &mut Words)
     requires { length records.now ≤ most_records }
     ensures { IndexedFrom (length records.now) records.now words.new }

@@ -17,7 +17,7 @@ pub fn run(site: &IndexedSite, state: &mut [u8], journal: &[u8], answers: &mut [
     ensures state_after { state.new ≡ state_of (m.after (panel site.now state.old) (map entry_of (entries journal.now))) }
     ensures answers_after { answers.new ≡ flatten (map answer_bytes (m.answers (panel site.now state.old) (map entry_of (entries journal.now)))) }
 {
-    // By number: an answer is known only after its entry's step, which changes the state.
+    // By number, as `put_group` says; and an answer is known only after its entry's step.
     for (k, e) in Entries::of(journal).enumerate() {
         let answer = step(site, state, e);
         octets::put_group(answers, k, &answer_bytes(answer));

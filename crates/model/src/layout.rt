@@ -1,5 +1,6 @@
 // Where the fields of records, entries and answers stand: offsets in bytes from the record's own start. A field is as wide as the number that it is read to.
-// A flag is a bit of the flags, bit 0 the lowest; FLAGS_END is one above the largest value of the named ones. A run of spare bytes has an offset and a size.
+// A flag is a bit of the flags, bit 0 the lowest; FLAGS_END is one above the largest value of the named ones. A run of spare bytes has an offset and a size,
+// as `clear` takes them. Bits stay numbers, as the numbers of numbers.rt do.
 
 // Every site record.
 pub const KIND: usize = 0;

@@ -47,7 +47,7 @@ pub enum RecordKind {
     OfFactor,
 }
 
-// The fields of a zone's site record.
+// The fields of a zone's site record. A flag, here and below, is true or false in its own right.
 #[derive(Clone, Copy)]
 pub struct Zone {
     pub counting: bool,
@@ -93,7 +93,7 @@ pub struct Credential {
     pub second_rights: RightsId,
 }
 
-// The fields of a point's state record.
+// The fields of a point's state record. Its times stay as they were where nothing is locked, failed or waited for: document 01's bytes keep them.
 #[derive(Clone, Copy)]
 pub struct PointState {
     pub tag: u32,

@@ -5,7 +5,7 @@ ghost use Rattle.std.specs.Prelude.{◌≡◌, ℕ, List, [], ◌++◌, ◌+◌,
 ghost use mathlib.Core.List.{flatten};
 ghost use Rattle.octets.specs.Octets.{field, put, groups, with_part, same};
 
-// A number of a fixed width, in big-endian bytes.
+// A number of a fixed width, in big-endian bytes. That they are within the part is asked at each offset, as the bounds of an index are.
 pub trait Number: Copy {
     ghost width: { ℕ };
 
@@ -113,7 +113,7 @@ impl Number for u64 {
     }
 }
 
-// The whole groups of N bytes that the slice has.
+// The whole groups of N bytes that the slice has. There is no type of positive numbers for a const parameter, so that each function asks `0 < N`.
 #[tactic(auto, using(crate::proofs::GroupLaws::chunks_groups))]
 pub fn groups<const N: usize>(bytes: &[u8]) -> &[[u8; N]]
     requires { 0 < N }
@@ -140,7 +140,7 @@ pub fn group<const N: usize>(bytes: &[u8], i: usize) -> &[u8; N]
     &groups(bytes)[i]
 }
 
-// Writes the i-th of them.
+// Writes the i-th of them. By number, here and in `put_each`: of chunks lent to be written the library says nothing of what the slice ends as.
 #[tactic(auto, unfolding(crate::specs::Octets::with_part))]
 pub fn put_group<const N: usize>(bytes: &mut [u8], i: usize, part: &[u8; N])
     requires size { 0 < N }
@@ -170,7 +170,7 @@ pub fn put_each<C: Chunk<T, N>, T, const N: usize>(bytes: &mut [u8], items: &[T]
     }
 }
 
-// Whether two runs of bytes are the same: `==`, in the words of the definitions.
+// Whether two runs of bytes are the same: `==`, in the words of the definitions, kept for what it promises.
 #[tactic(auto, using(crate::proofs::Laws::pointwise_same))]
 pub fn same_bytes(a: &[u8], b: &[u8]) -> bool
     ensures { result ≡ same a.now b.now }

@@ -1,5 +1,5 @@
-// Site and state records, entries and answers between bytes and structs by value: each field is read by one function, whose contract is the field's definition,
-// and written by one.
+// Site and state records, entries and answers between bytes and structs by value: each field is read by one function of its name, as document 02, job 2,
+// asks, whose contract is the field's definition, and written by one.
 #![tactic(auto)]
 
 ghost use Rattle.std.specs.Prelude.{◌≡◌, ◌+◌, ◌≤◌, ℕ, List};
@@ -31,7 +31,7 @@ pub trait Part: Copy {
         ensures { result ≡ reference at (bytes self) };
 }
 
-// What is read of a record, or of none.
+// What is read of a record, or of none. No From: the structs, and arrays, are of other crates, and a law of the bytes goes with each reader and writer.
 pub trait FromPart: Copy {
     ghost of_part: { List ℕ → Self };
 

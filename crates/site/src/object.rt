@@ -8,7 +8,7 @@ ghost use Rattle.site.specs.Sought.{by_instance};
 use model::numbers::{ACCESS_CREDENTIAL, ACCESS_POINT, ACCESS_RULE, ACCESS_ZONE};
 use model::{CredentialId, PointId, RightsId, ZoneId};
 
-// A number of one kind of record: zone 7 is never point 7.
+// A number of one kind of record: zone 7 is never point 7. Each type has its own impl, since an impl by a macro is refused.
 pub trait Object: Copy {
     ghost KIND: { ℕ };
 

@@ -62,7 +62,7 @@ fn credential_well(site: &IndexedSite, s: &Record, t: &Record) -> bool
         & is_below_most(wrong_tries_of(t), most_wrong_tries_of(s))
 }
 
-// The state record t of the site record s.
+// The state record t of the site record s: they stand in two files, as document 01 has them, and go together by number.
 fn record_well(site: &IndexedSite, s: &Record, t: &Record) -> bool
     ensures { result ≡ record_well (records site.now) (s.now, t.now) }
 {

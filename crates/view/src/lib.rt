@@ -20,7 +20,7 @@ pub enum Object {
     Rights(RightsId),
 }
 
-// The first record that an object names, else the empty part.
+// The first record that an object names, else the empty part, as document 01 asks. The caller chooses the kind when it calls.
 #[tactic(auto, unfolding(crate::specs::Object::kind_of, crate::specs::Object::instance_of))]
 pub fn find_object(site: &[u8], object: Object) -> &[u8]
     ensures { result.now ≡ lookup (kind_of object) (instance_of object) site.now }
@@ -33,7 +33,7 @@ pub fn find_object(site: &[u8], object: Object) -> &[u8]
     }
 }
 
-// A site's bytes, and how many records they hold.
+// A site's bytes, and how many records they hold: both, as document 01 asks.
 #[derive(Clone, Copy)]
 pub struct SiteView<'a> {
     pub bytes: &'a [u8],
@@ -99,7 +99,7 @@ impl<'a> SiteView<'a> {
     }
 }
 
-// The upper calls: each makes a view of the site and works on it.
+// The upper calls, as document 01 has them beside those of a view: each makes a view of the site and works on it.
 pub fn check_site(site: &[u8]) -> Result<(), Refusal>
     ensures { result ≡ check_site site.now }
 {

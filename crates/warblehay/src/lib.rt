@@ -12,7 +12,7 @@ ghost use Rattle.warblehay.specs.PlaceNumber.{place_number};
 use model::{CredentialId, PointId, ZoneId};
 use site::lookup::place_of;
 
-// The place of a record that is not there.
+// The place of a record that is not there: C has no Option.
 pub const NOWHERE: usize = 18446744073709551615;
 
 #[unsafe(no_mangle)]
@@ -54,7 +54,7 @@ fn place_number(place: Option<usize>) -> usize
     place.unwrap_or(NOWHERE)
 }
 
-// The lookups, on any bytes: the place of the first record of a kind and an instance, 0 for the first of the site.
+// The lookups, on any bytes: the place of the first record of a kind and an instance, 0 for the first of the site. Three, since C has no generics.
 #[unsafe(no_mangle)]
 pub extern "C" fn warblehay_place_of_zone(site: &[u8], zone: u32) -> usize
     ensures { result ≡ place_number (place_of access_zone zone site.now) }

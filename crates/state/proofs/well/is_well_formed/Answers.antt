@@ -1,3 +1,4 @@
+-- By the library's law of `all`, over pairs.
 use Rattle.std.proofs.Common.{rules, tests, ◌∙◌, ap, ap₂}
 use Rattle.std.specs.List.{zip}
 use Rattle.std.proofs.lemmas.Iterator.{YieldsList-from_slice, YieldsList-from_zip}

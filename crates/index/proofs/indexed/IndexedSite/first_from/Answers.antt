@@ -1,3 +1,4 @@
+-- A link leads to the next record of the bucket; past the last there is none.
 use Prim.Native.Nat.{◌<◌}
 use mathlib.Core.Path.{sym, ap, ◌∙◌}
 use native.Mathlib.Omega.{arith}
