@@ -1,6 +1,6 @@
 // The bits of a reader to the factor of a journal entry.
 ghost use Rattle.std.specs.Prelude.{◌≡◌};
-ghost use Rattle.wiegand.specs.Wiegand.{bits, facility_of, card_of, first_parity, last_parity, factor, reading_error, factor_of, read_wiegand26, returned_number};
+ghost use Rattle.wiegand.specs.Wiegand.{bits, first_parity, last_parity, reading_error, factor_of, read_wiegand26, returned_number};
 
 use crate::{FORMAT_WIEGAND26, Factor, NotTwentySixBits, WIEGAND26_BITS, WIEGAND26_NUMBERS};
 use model::numbers::FORMAT_ERROR;
@@ -25,20 +25,9 @@ fn reading_error() -> Factor
     }
 }
 
-#[tactic(auto, unfolding(crate::specs::Wiegand::factor, octets::specs::Octets::digits))]
-fn factor(facility: u8, card: u16) -> Factor
-    ensures { result ≡ factor facility card }
-{
-    let [high, low] = card.to_be_bytes();
-    Factor {
-        format: FORMAT_WIEGAND26,
-        value: [0, 0, 0, 0, 0, facility, high, low],
-    }
-}
-
 // Whether the first 13 of 26 bits have an even number of ones.
 #[tactic(auto, unfolding(crate::specs::Wiegand::is_even), using(crate::proofs::Fields::first_parity_law))]
-fn has_first_parity(number: u32) -> bool
+fn has_first_parity(number: u64) -> bool
     ensures { result ≡ first_parity (bits 26 number) }
 {
     (number / 8192 % 8192).count_ones() % 2 == 0
@@ -46,34 +35,23 @@ fn has_first_parity(number: u32) -> bool
 
 // Whether the last 13 have an odd number. Two functions: each is a definition, of other bits and another parity.
 #[tactic(auto, unfolding(crate::specs::Wiegand::is_even, crate::specs::Wiegand::is_odd), using(crate::proofs::Fields::last_parity_law))]
-fn has_last_parity(number: u32) -> bool
+fn has_last_parity(number: u64) -> bool
     ensures { result ≡ last_parity (bits 26 number) }
 {
     (number % 8192).count_ones() % 2 != 0
 }
 
-// Facility and card. A remainder is known to fit what `as` narrows it to.
-#[tactic(auto, using(crate::proofs::Fields::facility_number))]
-fn facility_of(number: u32) -> u8
-    ensures { result ≡ facility_of (bits 26 number) }
-{
-    (number / 131072 % 256) as u8
-}
-
-#[tactic(auto, using(crate::proofs::Fields::card_number))]
-fn card_of(number: u32) -> u16
-    ensures { result ≡ card_of (bits 26 number) }
-{
-    (number / 2 % 65536) as u16
-}
-
-// The factor of 26 bits.
-#[tactic(auto, unfolding(crate::specs::Wiegand::factor_of))]
-fn factor_of(number: u32) -> Factor
+// The factor of 26 bits. Without the last parity bit they end in the bytes that the factor takes over.
+#[tactic(auto, unfolding(crate::specs::Wiegand::factor_of, crate::specs::Wiegand::factor, octets::specs::Octets::digits), using(crate::proofs::Fields::facility_number, crate::proofs::Fields::card_number))]
+fn factor_of(number: u64) -> Factor
     ensures { result ≡ factor_of (bits 26 number) }
 {
     if has_first_parity(number) & has_last_parity(number) {
-        return factor(facility_of(number), card_of(number));
+        let [.., facility, high, low] = (number / 2).to_be_bytes();
+        return Factor {
+            format: FORMAT_WIEGAND26,
+            value: [0, 0, 0, 0, 0, facility, high, low],
+        };
     }
     reading_error()
 }
@@ -86,5 +64,5 @@ pub fn read_wiegand26(number: u64, count: u32) -> Result<Factor, NotTwentySixBit
     if (count != WIEGAND26_BITS) | (number >= WIEGAND26_NUMBERS) {
         return Err(NotTwentySixBits);
     }
-    Ok(factor_of(number as u32))
+    Ok(factor_of(number))
 }

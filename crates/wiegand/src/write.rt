@@ -7,8 +7,9 @@ ghost use Rattle.wiegand.specs.Wiegand.{write_wiegand26};
 pub fn write_wiegand26(facility: u8, card: u16) -> u32
     ensures { result ≡ write_wiegand26 facility card }
 {
-    let between = u32::from(facility) * 65536 + u32::from(card);
+    let [high, low] = card.to_be_bytes();
+    let between = u32::from_be_bytes([0, facility, high, low]);
     let first = (between / 4096).count_ones() % 2;
     let last = 1 - (between % 4096).count_ones() % 2;
-    first * 33554432 + between * 2 + last
+    (first << 25) + (between << 1) + last
 }
