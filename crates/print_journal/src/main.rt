@@ -2,8 +2,7 @@
 // Where an argument is missing, or a file cannot be read, a message goes to standard error, and nothing is printed.
 #![tactic(auto)]
 
-ghost use Rattle.std.specs.Prelude.{IfOk, IfSome};
-ghost use Rattle.io.specs.Counts.{IsPrefixLen};
+ghost use Rattle.std.specs.Prelude.{◌≤◌, IfOk, IfSome, length};
 
 use model::numbers::{ANSWER_SIZE, ENTRY_SIZE, LARGEST_JOURNAL, LARGEST_SITE};
 use print::numbers::LINE_SIZE;
@@ -36,9 +35,10 @@ fn fail(rt: &HostRuntime, what: &str, error: io::Error) {
     let _ = eprintln!(rt; "{what}: {error}");
 }
 
-// Reads until the file ends or the buffer is full. The loop is a `while`: the count moves by what a read gives, and no iterator of std's promises that.
-fn read_open(file: &mut File, bytes: &mut [u8]) -> io::Result<usize>
-    ensures { IfOk result (λ n. IsPrefixLen n bytes.new) }
+// Reads until the file ends or the buffer is full, and hands back the part that was filled. The loop is a `while`: the count moves by what a read gives,
+// and no iterator of std's promises that.
+fn read_open<'a>(file: &mut File, bytes: &'a mut [u8]) -> io::Result<&'a [u8]>
+    ensures { IfOk result (λ part. length part.now ≤ length bytes.old) }
 {
     let mut count = 0;
     while count < bytes.len() {
@@ -47,20 +47,20 @@ fn read_open(file: &mut File, bytes: &mut [u8]) -> io::Result<usize>
             n => count += n,
         }
     }
-    Ok(count)
+    Ok(&bytes[..count])
 }
 
 // Reads the file of this name.
-fn read_path(rt: &HostRuntime, path: &str, bytes: &mut [u8]) -> io::Result<usize>
-    ensures { IfOk result (λ n. IsPrefixLen n bytes.new) }
+fn read_path<'a>(rt: &HostRuntime, path: &str, bytes: &'a mut [u8]) -> io::Result<&'a [u8]>
+    ensures { IfOk result (λ part. length part.now ≤ length bytes.old) }
 {
     let mut file = File::open(rt, path)?;
     read_open(&mut file, bytes)
 }
 
-// Reads the file that argument i names: how many bytes, all of them or all that there is room for. Or says why it cannot.
-fn read_file(rt: &HostRuntime, i: usize, bytes: &mut [u8]) -> Option<usize>
-    ensures { IfSome result (λ n. IsPrefixLen n bytes.new) }
+// Reads the file that argument i names: the part of the buffer that was filled. Or says why it cannot.
+fn read_file<'a>(rt: &HostRuntime, i: usize, bytes: &'a mut [u8]) -> Option<&'a [u8]>
+    ensures { IfSome result (λ part. length part.now ≤ length bytes.old) }
 {
     let mut name = [0u8; PATH_ROOM];
     let Ok(n) = rt.arg(i, &mut name) else {
@@ -72,7 +72,7 @@ fn read_file(rt: &HostRuntime, i: usize, bytes: &mut [u8]) -> Option<usize>
         return None;
     };
     match read_path(rt, path, bytes) {
-        Ok(count) => Some(count),
+        Ok(part) => Some(part),
         Err(error) => {
             fail(rt, path, error);
             None
@@ -108,24 +108,24 @@ fn main(rt: HostRuntime) {
         say(&rt, "usage: print_journal SITE JOURNAL");
         return;
     }
-    let mut site = [0u8; SITE_ROOM];
-    let Some(n) = read_file(&rt, 1, &mut site) else {
+    let mut site_room = [0u8; SITE_ROOM];
+    let Some(site) = read_file(&rt, 1, &mut site_room) else {
         return;
     };
-    let mut journal = [0u8; JOURNAL_ROOM];
-    let Some(m) = read_file(&rt, 2, &mut journal) else {
+    let mut journal_room = [0u8; JOURNAL_ROOM];
+    let Some(journal) = read_file(&rt, 2, &mut journal_room) else {
         return;
     };
     let mut state = [0u8; SITE_ROOM];
     let mut answers = [0u8; ANSWERS_ROOM];
     let mut text = [0u8; TEXT_ROOM];
-    let k = m / ENTRY_SIZE * ANSWER_SIZE;
+    let answers_size = journal.len() / ENTRY_SIZE * ANSWER_SIZE;
     print_bytes(
         &rt,
-        &site[..n],
-        &journal[..m],
-        &mut state[..n],
-        &mut answers[..k],
+        site,
+        journal,
+        &mut state[..site.len()],
+        &mut answers[..answers_size],
         &mut text,
     );
 }
