@@ -72,7 +72,7 @@ fn read_path<'a>(rt: &HostRuntime, path: &str, bytes: &'a mut [u8]) -> io::Resul
     read_open(&mut file, bytes)
 }
 
-// Reads the file that argument i names: the part of the buffer that was filled. The name is put into its own buffer, since a failure may name it.
+// Reads the file that argument i names: the part of the buffer that was filled.
 fn read_file<'n, 'a>(
     rt: &HostRuntime,
     i: usize,
@@ -91,7 +91,7 @@ fn is_given(rt: &HostRuntime, i: usize) -> bool {
     !matches!(rt.arg(i, &mut []), Err(FillError::NotPresent))
 }
 
-// Prints the journal of these bytes. State, answers and text are lent to work in; those of main have room for every journal that it reads.
+// Prints the journal of these bytes. State, answers and text are lent to work in; those of `print_files` have room for every journal that it reads.
 fn print_bytes(
     rt: &HostRuntime,
     site: &[u8],
@@ -103,13 +103,14 @@ fn print_bytes(
     let Some(length) = print::print_journal(site, journal, state, answers, text) else {
         return Err(Failure::NoRoom);
     };
+    // No `map_err`: the check does not cover one whose result names a lifetime, here `'static`, that its argument does not.
     match rt.stdout().write_all(&text[..length]) {
         Ok(()) => Ok(()),
         Err(error) => Err(Failure::Unwritten(error)),
     }
 }
 
-// Prints the journal of the two files that the arguments name.
+// Prints the journal of the two files that the arguments name. Their names are put into lent buffers, since a failure that is handed back may hold one.
 fn print_files<'n>(
     rt: &HostRuntime,
     site_name: &'n mut [u8],
