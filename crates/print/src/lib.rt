@@ -20,8 +20,8 @@ fn has_room(journal: &[u8], text: &[u8]) -> bool
     (journal.len() / ENTRY_SIZE * LINE_SIZE <= text.len()) & (NUMBER_SIZE <= text.len())
 }
 
-// Runs a journal from fresh, in the lent state and answers.
-#[tactic(auto, unfolding(crate::specs::Print::run_into))]
+// Runs a journal from fresh, in the lent state and answers. What the making of a fresh state turns back, the run would turn back under the same number.
+#[tactic(auto, unfolding(crate::specs::Print::run_into, model::specs::Calls::run_journal, model::specs::Calls::run_returned, model::specs::Calls::check_state, model::specs::Calls::fresh_state, model::specs::Calls::is_worked))]
 fn run_into(
     site: &[u8],
     journal: &[u8],
@@ -30,11 +30,13 @@ fn run_into(
 ) -> Result<(), Refusal>
     ensures { run_result result state.new answers.new ≡ run_into site.now journal.now state.old answers.old }
 {
-    let _ = view::fresh_state(site, state);
+    view::fresh_state(site, state)?;
     view::run_journal(site, state, journal, answers)
 }
 
 // The printed journal, at the head of the text. Returns how long it is. Without room for it no buffer is changed.
+// The five slices are no struct: it would be made once and taken apart twice, and its lent parts would be parts of its entry in the contract.
+// What is written is handed back by its length: the contract speaks of the whole text's later contents, and no clause can where a part of it is lent out.
 pub fn print_journal(
     site: &[u8],
     journal: &[u8],

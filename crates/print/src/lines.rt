@@ -8,7 +8,7 @@ use super::numbers::{DIGIT_ZERO, LETTER_BASE, LINE_FEED, LINE_SIZE, NUMBER_SIZE}
 use model::numbers::ANSWER_SIZE;
 use octets::Chunk;
 
-// Made by hand: std's `write!` promises its text only where it returned Ok.
+// Made by hand: std's `char::from_digit` gives a lower case letter and a char, to be turned to upper case and to a byte: no plainer.
 #[tactic(auto, unfolding(model::specs::Print::hex_digit))]
 fn hex_digit(n: u8) -> u8
     requires { n < 16 }
@@ -47,7 +47,7 @@ impl Chunk<[u8; ANSWER_SIZE], LINE_SIZE> for AnswerLine {
     }
 }
 
-// A line for each whole answer, in turn, at the head of the text. Returns how long they are.
+// A line for each whole answer, in turn, at the head of the text. Returns how long they are, as `print_journal` does.
 #[tactic(auto, using(crate::proofs::Chunks::length_whole))]
 pub(super) fn write_answers(answers: &[u8], text: &mut [u8]) -> usize
     requires { length answers.now / answer_size * line_size ≤ length text.old }
@@ -59,6 +59,7 @@ pub(super) fn write_answers(answers: &[u8], text: &mut [u8]) -> usize
     whole.len() * LINE_SIZE
 }
 
+// Made by hand: `char::from_digit` gives a char in an Option, to be unwrapped and turned to a byte: no plainer.
 fn decimal_digit(n: u32) -> u8
     requires { n < 10 }
     ensures { result ≡ digit_zero + n }
@@ -67,8 +68,8 @@ fn decimal_digit(n: u32) -> u8
     DIGIT_ZERO + (n as u8)
 }
 
-// A number of one or two digits and a line feed, at the head of the text. Returns how long they are.
-// Made by hand, as a hexadecimal digit is; `itoa` would be one more library to trust.
+// A number of one or two digits and a line feed, at the head of the text. Returns how long they are, as `print_journal` does.
+// Made by hand: std's `write!` promises its text only where it returned Ok, and `itoa` would be one more library to trust.
 pub(super) fn write_decimal_line(text: &mut [u8], number: u32) -> usize
     requires { (number_size ≤ length text.old) × (number < 100) }
     ensures text_after { text.new ≡ decimal_line number ++ drop result text.old }

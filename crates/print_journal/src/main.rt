@@ -2,15 +2,14 @@
 // Where an argument is missing, or a file cannot be read, a message goes to standard error, and nothing is printed.
 #![tactic(auto)]
 
-ghost use Rattle.std.specs.Prelude.{IfOk, IfSome};
-ghost use Rattle.io.specs.Counts.{IsPrefixLen};
+ghost use Rattle.std.specs.Prelude.{◌≤◌, IfOk, length};
 
 use model::numbers::{ANSWER_SIZE, ENTRY_SIZE, LARGEST_JOURNAL, LARGEST_SITE};
 use print::numbers::LINE_SIZE;
 use std::env::{Env, FillError};
 use std::fs::File;
-use std::io;
 use std::io::{Read, Write};
+use std::{fmt, io};
 
 // Memory is fixed, with no Vec or String. A byte more than the largest file that is worked through: a larger one fills its buffer, and is turned back by
 // its length.
@@ -26,19 +25,34 @@ const TEXT_ROOM: usize = JOURNAL_ROOM / ENTRY_SIZE * LINE_SIZE;
 // No longer name is opened.
 const PATH_ROOM: usize = 4096;
 
-// A message on standard error. Where it cannot be written, nothing more can be said.
-fn say(rt: &HostRuntime, what: &str) {
-    let _ = eprintln!(rt; "{what}");
+// Why nothing is printed.
+#[derive(Drop)]
+enum Failure<'n> {
+    Usage,
+    NameTooLong,
+    NameNotUtf8,
+    Unread(&'n str, io::Error),
+    NoRoom,
+    Unwritten(io::Error),
 }
 
-// What failed, and why.
-fn fail(rt: &HostRuntime, what: &str, error: io::Error) {
-    let _ = eprintln!(rt; "{what}: {error}");
+impl<'n> fmt::Display for Failure<'n> {
+    fn fmt<W: fmt::Write>(&self, f: &mut fmt::Formatter<W>) -> fmt::Result {
+        match self {
+            Failure::Usage => write!(f, "usage: print_journal SITE JOURNAL"),
+            Failure::NameTooLong => write!(f, "file name: too long"),
+            Failure::NameNotUtf8 => write!(f, "file name: not UTF-8"),
+            Failure::Unread(name, error) => write!(f, "{name}: {error}"),
+            Failure::NoRoom => write!(f, "print_journal: no room for the text"),
+            Failure::Unwritten(error) => write!(f, "standard output: {error}"),
+        }
+    }
 }
 
-// Reads until the file ends or the buffer is full. The loop is a `while`: the count moves by what a read gives, and no iterator of std's promises that.
-fn read_open(file: &mut File, bytes: &mut [u8]) -> io::Result<usize>
-    ensures { IfOk result (λ n. IsPrefixLen n bytes.new) }
+// Reads until the file ends or the buffer is full, and hands back the part that was filled. The loop is a `while`: the count moves by what a read gives,
+// and no iterator of std's promises that.
+fn read_open<'a>(file: &mut File, bytes: &'a mut [u8]) -> io::Result<&'a [u8]>
+    ensures { IfOk result (λ part. length part.now ≤ length bytes.old) }
 {
     let mut count = 0;
     while count < bytes.len() {
@@ -47,37 +61,29 @@ fn read_open(file: &mut File, bytes: &mut [u8]) -> io::Result<usize>
             n => count += n,
         }
     }
-    Ok(count)
+    Ok(&bytes[..count])
 }
 
 // Reads the file of this name.
-fn read_path(rt: &HostRuntime, path: &str, bytes: &mut [u8]) -> io::Result<usize>
-    ensures { IfOk result (λ n. IsPrefixLen n bytes.new) }
+fn read_path<'a>(rt: &HostRuntime, path: &str, bytes: &'a mut [u8]) -> io::Result<&'a [u8]>
+    ensures { IfOk result (λ part. length part.now ≤ length bytes.old) }
 {
     let mut file = File::open(rt, path)?;
     read_open(&mut file, bytes)
 }
 
-// Reads the file that argument i names: how many bytes, all of them or all that there is room for. Or says why it cannot.
-fn read_file(rt: &HostRuntime, i: usize, bytes: &mut [u8]) -> Option<usize>
-    ensures { IfSome result (λ n. IsPrefixLen n bytes.new) }
+// Reads the file that argument i names: the part of the buffer that was filled.
+fn read_file<'n, 'a>(
+    rt: &HostRuntime,
+    i: usize,
+    name: &'n mut [u8],
+    bytes: &'a mut [u8],
+) -> Result<&'a [u8], Failure<'n>>
+    ensures { IfOk result (λ part. length part.now ≤ length bytes.old) }
 {
-    let mut name = [0u8; PATH_ROOM];
-    let Ok(n) = rt.arg(i, &mut name) else {
-        say(rt, "file name: too long");
-        return None;
-    };
-    let Ok(path) = str::from_utf8(&name[..n]) else {
-        say(rt, "file name: not UTF-8");
-        return None;
-    };
-    match read_path(rt, path, bytes) {
-        Ok(count) => Some(count),
-        Err(error) => {
-            fail(rt, path, error);
-            None
-        }
-    }
+    let n = rt.arg(i, name).map_err(|_| Failure::NameTooLong)?;
+    let path = str::from_utf8(&name[..n]).map_err(|_| Failure::NameNotUtf8)?;
+    read_path(rt, path, bytes).map_err(|error| Failure::Unread(path, error))
 }
 
 // Whether argument i is there.
@@ -85,7 +91,7 @@ fn is_given(rt: &HostRuntime, i: usize) -> bool {
     !matches!(rt.arg(i, &mut []), Err(FillError::NotPresent))
 }
 
-// Prints the journal of these bytes. State, answers and text are lent to work in; those of main have room for every journal that it reads.
+// Prints the journal of these bytes. State, answers and text are lent to work in; those of `print_files` have room for every journal that it reads.
 fn print_bytes(
     rt: &HostRuntime,
     site: &[u8],
@@ -93,39 +99,49 @@ fn print_bytes(
     state: &mut [u8],
     answers: &mut [u8],
     text: &mut [u8],
-) {
+) -> Result<(), Failure<'static>> {
     let Some(length) = print::print_journal(site, journal, state, answers, text) else {
-        say(rt, "print_journal: no room for the text");
-        return;
+        return Err(Failure::NoRoom);
     };
-    if let Err(error) = rt.stdout().write_all(&text[..length]) {
-        fail(rt, "standard output", error);
+    // No `map_err`: the check does not cover one whose result names a lifetime, here `'static`, that its argument does not.
+    match rt.stdout().write_all(&text[..length]) {
+        Ok(()) => Ok(()),
+        Err(error) => Err(Failure::Unwritten(error)),
     }
 }
 
-fn main(rt: HostRuntime) {
-    if !is_given(&rt, 2) || is_given(&rt, 3) {
-        say(&rt, "usage: print_journal SITE JOURNAL");
-        return;
+// Prints the journal of the two files that the arguments name. Their names are put into lent buffers, since a failure that is handed back may hold one.
+fn print_files<'n>(
+    rt: &HostRuntime,
+    site_name: &'n mut [u8],
+    journal_name: &'n mut [u8],
+) -> Result<(), Failure<'n>> {
+    if !is_given(rt, 2) || is_given(rt, 3) {
+        return Err(Failure::Usage);
     }
-    let mut site = [0u8; SITE_ROOM];
-    let Some(n) = read_file(&rt, 1, &mut site) else {
-        return;
-    };
-    let mut journal = [0u8; JOURNAL_ROOM];
-    let Some(m) = read_file(&rt, 2, &mut journal) else {
-        return;
-    };
+    let mut site_room = [0u8; SITE_ROOM];
+    let site = read_file(rt, 1, site_name, &mut site_room)?;
+    let mut journal_room = [0u8; JOURNAL_ROOM];
+    let journal = read_file(rt, 2, journal_name, &mut journal_room)?;
     let mut state = [0u8; SITE_ROOM];
     let mut answers = [0u8; ANSWERS_ROOM];
     let mut text = [0u8; TEXT_ROOM];
-    let k = m / ENTRY_SIZE * ANSWER_SIZE;
+    let answers_size = journal.len() / ENTRY_SIZE * ANSWER_SIZE;
     print_bytes(
-        &rt,
-        &site[..n],
-        &journal[..m],
-        &mut state[..n],
-        &mut answers[..k],
+        rt,
+        site,
+        journal,
+        &mut state[..site.len()],
+        &mut answers[..answers_size],
         &mut text,
-    );
+    )
+}
+
+fn main(rt: HostRuntime) {
+    let mut site_name = [0u8; PATH_ROOM];
+    let mut journal_name = [0u8; PATH_ROOM];
+    if let Err(failure) = print_files(&rt, &mut site_name, &mut journal_name) {
+        // Where the message cannot be written, nothing more can be said.
+        let _ = eprintln!(rt; "{failure}");
+    }
 }
