@@ -99,7 +99,7 @@ pub fn location_fits(part: &Record, point: PointId, to: ZoneId) -> bool
     }
 }
 
-// Whether a time is in the window of a rule that ends on the day on which it began.
+// Whether a time is in the window of a rule that ends on the day on which it began. A rule and a time stay two parameters, here and below, as in the definitions.
 #[tactic(auto, unfolding(model::specs::Checks::fits_within_day))]
 fn fits_within_day(part: &Record, time: u32) -> bool
     ensures { result ≡ fits_within_day time part.now }

@@ -22,7 +22,7 @@ fn zones_exist(site: &IndexedSite, part: &Record) -> bool
     none_or_exists(site, zone_to_of(part)) & none_or_exists(site, zone_from_of(part))
 }
 
-// In range the location kinds are those of zone and point.
+// In range the location kinds are those of zone and point. Each function below asks it of its own record.
 #[tactic(auto, using(crate::proofs::Records::point_location))]
 fn location_exists(site: &IndexedSite, part: &Record) -> bool
     requires { rule_in_range part.now ≡ true }

@@ -17,7 +17,8 @@ use model::numbers::{ACCESS_RULE, ROLE_IDENTIFYING};
 use records::Record;
 use records::site::{format_of, instance_of, kind_of, record_kind_of, role_of};
 
-// Two factors: identifying ones alike in format and value, confirming ones also in credential. Most that come here differ in their values, so that the credential is seldom read.
+// Two factors: identifying ones alike in format and value, confirming ones also in credential. Most that come here differ in their values, so that the
+// credential is seldom read. Two records stay two parameters, here and below, as in the definitions.
 #[tactic(auto, unfolding(model::specs::Accept::twin_factors))]
 fn twin_factors(s: &Record, t: &Record) -> bool
     ensures { result ≡ Accept.twin_factors s.now t.now }

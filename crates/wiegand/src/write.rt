@@ -2,7 +2,7 @@
 ghost use Rattle.std.specs.Prelude.{◌≡◌};
 ghost use Rattle.wiegand.specs.Wiegand.{write_wiegand26};
 
-// The number whose bits are facility and card between their parity bits.
+// The number whose bits are facility and card, as C lends them, between their parity bits.
 #[tactic(auto, using(crate::proofs::Fields::written_number))]
 pub fn write_wiegand26(facility: u8, card: u16) -> u32
     ensures { result ≡ write_wiegand26 facility card }
