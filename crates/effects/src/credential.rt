@@ -10,7 +10,7 @@ use model::numbers::{
 };
 use model::{CredentialState, Entry, PointId, Situation, ZoneId};
 
-// A grant takes the credential into Zone_To, or out of Zone_From to nowhere.
+// A grant takes the credential into Zone_To, or out of Zone_From to nowhere. All three zones are ready numbers, so that plain ifs choose.
 #[tactic(auto, unfolding(model::specs::Effects::zone_after))]
 pub fn zone_after(v: Situation, x: u16) -> ZoneId
     ensures { result ≡ zone_after v x }

@@ -39,7 +39,7 @@ pub fn soft_passback(v: Situation, e: Entry, x: u16) -> bool
             | (x == GRANTED))
 }
 
-// What a mark adds where it is set.
+// What a mark adds where it is set: a flag chooses, since the worth is a constant.
 fn mark(on: bool, worth: u8) -> u8
     ensures value { result ≡ m.mark on worth }
     ensures upper_bound { result ≤ worth }

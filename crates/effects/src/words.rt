@@ -20,6 +20,7 @@ pub fn date_of(time: u32) -> u32
 }
 
 // The failures, or wrong tries, that are kept: those with this one are kept only below the most, where they have one byte.
+// Flags choose among values that are ready: closures would say no less.
 pub fn count_kept(granted: bool, failing: bool, most: u8, with: u16, before: u8) -> u8
     ensures { result ≡ if granted || failing && leb most with then 0 else if failing then with else before }
 {

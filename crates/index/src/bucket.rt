@@ -35,7 +35,7 @@ pub type Bucket = Below<BUCKETS>;
 pub type Class = Below<RULE_CLASSES>;
 
 impl<const N: usize> Below<N> {
-    // That of any number.
+    // That of any number. `0 < N` is asked as in `octets`: there is no type of positive numbers.
     pub fn of(number: usize) -> Below<N>
         requires { 0 < N }
         ensures { result ≡ number % N }

@@ -108,7 +108,7 @@ impl<'s, 'w> IndexedSite<'s, 'w> {
         super::link_of(self.words, i)
     }
 
-    // The first record of a kind's class, or the number of records, where it has none.
+    // The first record of a kind's class, or the number of records, where it has none. A kind is the byte of a record, as for `object_bucket`.
     fn first_of_kind(&self, kind: u8) -> usize
         ensures { result ≡ next_in kind_class (kind % kind_classes) 0 (records self.now) }
     {

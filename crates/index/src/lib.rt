@@ -38,7 +38,7 @@ const KIND_CLASSES: usize = 8;
 
 pub const INDEX_SIZE: usize = 3040;
 
-// The numbers of an index, as one array: memory is fixed, and the function by which the library clears it on the stack is proved for one array.
+// The numbers of an index, as one array: memory is fixed, and the definitions (`head`, `link`, `kind_head`) speak of one list of numbers.
 pub type Words = [u16; INDEX_SIZE];
 
 // What an index holds before it is built. Its two bytes differ, since a fill with equal bytes becomes a call of memset.
@@ -74,7 +74,7 @@ pub fn records(site: &[u8]) -> &[Record]
     octets::groups(site)
 }
 
-// The i-th record, as a part of the site.
+// The i-th record, as a part of the site. Its bound is asked, as of any lookup by number.
 #[tactic(auto, using(crate::proofs::Building::length_records), unfolding(model::specs::Site::records))]
 pub fn record_at(site: &[u8], i: usize) -> &Record
     requires { i < length (records site.now) }
@@ -103,7 +103,7 @@ pub fn object_bucket(kind: u8, instance: u32) -> Bucket
     spread(instance, 0, 0, u16::from(kind))
 }
 
-// The class of the rules of a rights number at a location; everywhere is location 0 of kind 0.
+// The class of the rules of a rights number at a location; everywhere is location 0 of kind 0, as in the definition.
 #[tactic(auto, unfolding(crate::specs::Index::rule_class))]
 pub fn rule_class(rights: u32, kind: u8, location: u32) -> Class
     ensures { result ≡ rule_class rights kind location }

@@ -1,6 +1,6 @@
 // A journal run over lent bytes. The way of an entry goes forward: its form and its object, the records that it looks at, gathered by value, its outcome,
-// and the records that it writes. Site and state stay two parameters: all but `step` and `run` only read the state, so that a struct of both
-// would be needed twice; in a contract, what such a struct has lent is a part of its entry, and Rattle copies none that has both a lifetime and a Model.
+// and the records that it writes. Site and state stay two parameters: with a struct of both, each clause would name its two parts; in a
+// contract, what such a struct has lent is a part of its entry, and Rattle copies none that has both a lifetime and a Model.
 #![tactic(auto)]
 
 pub mod object; // object.rt: where the object of an entry stands

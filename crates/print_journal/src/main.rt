@@ -49,8 +49,8 @@ impl<'n> fmt::Display for Failure<'n> {
     }
 }
 
-// Reads until the file ends or the buffer is full, and hands back the part that was filled. The loop is a `while`: the count moves by what a read gives,
-// and no iterator of std's promises that.
+// Reads until the file ends or the buffer is full, and hands back the part that was filled, no longer than the buffer: so long is the state that
+// `print_files` lends. The loop is a `while`: the count moves by what a read gives, and no iterator of std's promises that.
 fn read_open<'a>(file: &mut File, bytes: &'a mut [u8]) -> io::Result<&'a [u8]>
     ensures { IfOk result (λ part. length part.now ≤ length bytes.old) }
 {
@@ -100,6 +100,7 @@ fn print_bytes(
     answers: &mut [u8],
     text: &mut [u8],
 ) -> Result<(), Failure<'static>> {
+    // No `ok_or`: the check does not find the bound of the length after it.
     let Some(length) = print::print_journal(site, journal, state, answers, text) else {
         return Err(Failure::NoRoom);
     };

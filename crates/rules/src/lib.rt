@@ -62,6 +62,7 @@ pub fn weekday_before(day: u8) -> u8
     day - 1
 }
 
+// A remainder fits, as above.
 #[tactic(auto, unfolding(model::specs::Checks::minute_of_day))]
 pub fn minute_of_day(time: u32) -> u16
     ensures { result ≡ minute_of_day time }

@@ -71,6 +71,7 @@ impl Sought for Presented {
 #[tactic(auto, unfolding(crate::specs::Factor::presented_bucket))]
 impl Keyed for Presented {
     fn bucket(self) -> Bucket {
+        // 0 stands for none, as in the definition.
         let owner = match self.confirms {
             Some(credential) => credential.0,
             None => 0,

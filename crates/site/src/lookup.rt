@@ -73,6 +73,7 @@ fn is_presented(part: &Record, p: Presented) -> bool
     (format_of(part) == p.format) & has_value(part, p.value)
 }
 
+// Two functions, here and below: each is a definition, of another role and other fields.
 #[tactic(auto, unfolding(model::specs::Checks::identifying))]
 fn is_identifying(part: &Record, p: Presented) -> bool
     ensures { result ≡ identifying p.format p.value part.now }

@@ -1,4 +1,4 @@
--- What the library's search gives.
+-- What the library's search gives, handed to one lemma; a further lemma would take all these facts.
 use Rattle.std.proofs.Common.{rules, tests}
 use Rattle.std.proofs.lemmas.Iterator.{YieldsList-from_slice}
 use Rattle.std.proofs.lemmas.Iterator.Search.{find_from_yields_List}

@@ -1,4 +1,4 @@
--- The head of the bucket is its first record.
+-- The head of the bucket is its first record. The facts of the call go to two lemmas; a further lemma would take them all.
 use mathlib.Core.Path.{◌∙◌}
 use native.Mathlib.Omega.{arith}
 use Rattle.model.specs.Site.{records}

@@ -1,4 +1,4 @@
--- The link of a record of the bucket is the next of it.
+-- The link of a record of the bucket is the next of it. The facts of the call go to two lemmas; a further lemma would take them all.
 use mathlib.Core.Path.{◌∙◌}
 use native.Mathlib.Omega.{arith}
 use Rattle.model.specs.Site.{records}
