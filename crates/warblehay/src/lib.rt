@@ -12,7 +12,7 @@ ghost use Rattle.warblehay.specs.PlaceNumber.{place_number};
 use model::{CredentialId, PointId, ZoneId};
 use site::lookup::place_of;
 
-// The place of a record that is not there: C has no Option.
+// The place of a record that is not there.
 pub const NOWHERE: usize = 18446744073709551615;
 
 #[unsafe(no_mangle)]
@@ -48,6 +48,7 @@ pub extern "C" fn warblehay_run_journal(
     calls::number_of(view::run_journal(site, state, journal, answers))
 }
 
+// C has no Option, so that a number stands for no place.
 fn place_number(place: Option<usize>) -> usize
     ensures { result ≡ place_number place }
 {
