@@ -4,7 +4,7 @@ ghost use Rattle.std.specs.Int.Bits.{bit_or};
 ghost use Rattle.model.specs.Words.{bit};
 ghost use Rattle.index.specs.Index.{chain_scale, tags, record_of};
 
-use super::Class;
+use super::TAGS;
 
 // What the tags are multiples of: a record's number, or the number of records, is below it.
 const CHAIN_SCALE: u16 = 2048;
@@ -21,10 +21,10 @@ impl Chain {
     }
 
     // Whether it may hold a rule of the class: one of its tag is in it.
-    pub fn may_hold(self, class: Class) -> bool
+    pub fn may_hold(self, class: usize) -> bool
         ensures { result ≡ bit (self.0 / chain_scale) (class % tags) }
     {
-        ((self.0 / CHAIN_SCALE) >> class.tag()) % 2 == 1
+        ((self.0 / CHAIN_SCALE) >> (class % TAGS)) % 2 == 1
     }
 
     // The chain with the i-th record, which has a mark, before its first.

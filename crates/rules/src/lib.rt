@@ -180,16 +180,17 @@ fn with_class(site: &IndexedSite, found: Verdict, class: Class, a: Asked) -> Opt
 {
     let records = site.records();
     let mut v = found;
+    let number = class.number();
     let mut chain = site.head(class.bucket());
     for _ in 0..LONG_CHAIN {
-        if !chain.may_hold(class) {
+        if !chain.may_hold(number) {
             return Some(v);
         }
         let at = chain.record();
         v = with_record(v, &records[at], a);
         chain = site.link(at);
     }
-    if chain.may_hold(class) {
+    if chain.may_hold(number) {
         return None;
     }
     Some(v)

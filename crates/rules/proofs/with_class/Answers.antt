@@ -13,13 +13,13 @@ bounds-records-at c =
     omega (
       arith,
       ap length c.records-records.ensures.value,
-      walk_goes_on c.loop.invariant c.may_hold.ensures c.if-not-may_hold.false c.record-at.ensures,
+      walk_goes_on c.loop.invariant (rw c.number-number.ensures at c.may_hold.ensures) c.if-not-may_hold.false c.record-at.ensures,
     )
 
 pub link-chain-requires : goal.link-chain-requires
-link-chain-requires c = walk_goes_on c.loop.invariant c.may_hold.ensures c.if-not-may_hold.false c.record-at.ensures
+link-chain-requires c = walk_goes_on c.loop.invariant (rw c.number-number.ensures at c.may_hold.ensures) c.if-not-may_hold.false c.record-at.ensures
 
 pub loop-preserved : goal.loop-preserved
 loop-preserved c =
     let read = rw c.records-records.ensures.value at c.with_record-v.ensures in
-    walk_turn c.loop.invariant c.may_hold.ensures c.if-not-may_hold.false c.record-at.ensures read c.link-chain.ensures
+    walk_turn c.loop.invariant (rw c.number-number.ensures at c.may_hold.ensures) c.if-not-may_hold.false c.record-at.ensures read c.link-chain.ensures

@@ -4,4 +4,4 @@ use Rattle.rules.proofs.Chains.{ClassWalk}
 use Rattle.rules.proofs.with_class.Given as goal
 
 abbrev pub invariant-loop : goal.invariant-loop
-invariant-loop l = ClassWalk l.a l.class (records l.site) l.fn.found l.v l.chain.0
+invariant-loop l = ClassWalk l.a l.fn.class (records l.site) l.fn.found l.v l.chain.0
