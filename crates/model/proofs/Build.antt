@@ -9,6 +9,7 @@ use Rattle.octets.specs.Octets.{digits}
 use Rattle.model.specs.Words.{zeros}
 use Rattle.model.specs.Numbers as n
 use Rattle.model.specs.Numbers.{NONE, NEVER, UNLIMITED, entry_size, answer_size}
+use Rattle.model.specs.State.{state_length}
 use Rattle.model.specs.Calls.{RunResult, fresh_state}
 use Rattle.model.specs.Lists.{event_in, answers_in, Run, History}
 use Rattle.model.specs.Print.{from_fresh}
@@ -133,11 +134,11 @@ unfoldable pub run : List (List ℕ) → Run
 run journal = record { journal = flatten journal; answers = zeros (length (flatten journal) / entry_size * answer_size) }
 
 -- Journals from fresh over a site of records.
-unfoldable pub history : (site : List (List ℕ)) → List (List (List ℕ)) → (fresh_state (flatten site) (zeros (length (flatten site)))).returned ≡ Ok tt → History
+unfoldable pub history : (site : List (List ℕ)) → List (List (List ℕ)) → (fresh_state (flatten site) (zeros (state_length (flatten site)))).returned ≡ Ok tt → History
 history site journals accepted =
     record {
       site = flatten site;
-      buffer = zeros (length (flatten site));
+      buffer = zeros (state_length (flatten site));
       accepted = accepted;
       runs = map run journals;
     }

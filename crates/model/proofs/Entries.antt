@@ -12,7 +12,7 @@ use lib.Seq.{length-take-le, take-take, take-nil}
 use borrow.Author.Tests.{eqb-true, eq-eqb, ltb-false, le-ltb, not-false}
 use Rattle.octets.specs.Octets.{groups}
 use Rattle.octets.proofs.GroupLaws.{length_groups}
-use Rattle.model.specs.State.{Panel, panel, state_of, well_formed}
+use Rattle.model.specs.State.{Panel, panel, state_length, state_of, well_formed}
 use Rattle.model.specs.Entry.{entry_of, entries, answer_bytes}
 use Rattle.model.specs.Step.{apply, entry_outcome, after, answers}
 use Rattle.model.specs.Calls.{Returned, is_worked, fresh_returned, check_state, run_returned, run_journal}
@@ -24,14 +24,14 @@ use Rattle.model.specs.declared.Refusal.TheVariants.{StateLength, StateForm, Jou
 
 -- ── what a worked run passed
 
--- Site and state of whole records, one as long as the other.
-pub lengths : (site state : List ℕ) → is_worked (fresh_returned site state) ≡ true → (length site % 32 ≡ 0) × (length state ≡ length site)
+-- A site of whole records, and a state as long as its states are.
+pub lengths : (site state : List ℕ) → is_worked (fresh_returned site state) ≡ true → (length site % 32 ≡ 0) × (length state ≡ state_length site)
 unfolding fresh_returned is_worked
 lengths site state w =
     let f = worked_through (fresh_returned site state) w in
     let s = site_worked site state f in
-    let p = passed_check (not (eqb (length state) (length site))) (Err StateLength) (Ok tt) refl (rw s at f) in
-    ((site_accepted site s).whole_records, eqb-true (length state) (length site) (not-false _ p.0))
+    let p = passed_check (not (eqb (length state) (state_length site))) (Err StateLength) (Ok tt) refl (rw s at f) in
+    ((site_accepted site s).whole_records, eqb-true (length state) (state_length site) (not-false _ p.0))
 
 pub record RunAccepted (site state : List ℕ) (r : Run) : Type 0 where
   pub fresh_worked : is_worked (fresh_returned site state) ≡ true

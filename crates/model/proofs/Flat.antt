@@ -1,21 +1,21 @@
 -- Site and state as bytes, and as a panel of records: each gives the other back.
 use Rattle.std.specs.Prelude.{if◌then◌else◌, Option, Some, None}
-use Prim.Native.Nat.{ℕ, zero, suc, ◌+◌, ◌*◌, ◌/◌, ◌%◌, ◌<◌}
+use Prim.Native.Nat.{ℕ, zero, suc, ◌+◌, ◌*◌, ◌≤◌}
 use native.Mathlib.Omega.{arith}
 use mathlib.Core.Path.{◌≡◌, refl, sym, ◌∙◌, ap}
 use mathlib.Core.List.{List, [], ◌∷◌, map, map-map, flatten}
-use mathlib.Core.Bool.{Bool, true, false, ◌&&◌}
+use mathlib.Core.Bool.{Bool, true, false, ◌||◌}
 use lib.Dec.{eqb}
-use lib.ListN.{length, take, drop, get_or, length-append, length-map, length-drop}
+use lib.ListN.{length, take, drop, length-append, length-drop, take-append-drop}
 use lib.Seq.{take_at, drop_at, length-take-le}
 use borrow.Author.Tests.{eqb-true, eq-eqb}
 use Rattle.octets.specs.Octets.{groups}
-use Rattle.octets.proofs.GroupLaws.{length_groups, joined_back}
 use Rattle.model.specs.Words.{keep, all, missing}
-use Rattle.model.specs.Site.{record_kind, find_in, records}
-use Rattle.model.specs.State.{Pair, Panel, paired, panel, sites, state_of, find_by, fresh_point, fresh_credential, fresh_record_as, fresh_record, fresh}
+use Rattle.model.specs.Numbers.{access_zone, access_point, access_credential}
+use Rattle.model.specs.Site.{kind, record_kind, is_at, find_in, records}
+use Rattle.model.specs.State.{Pair, Panel, kept_kind, kept, state_size, state_length, paired, panel, sites, state_of, find_by, fresh_point, fresh_credential, fresh_record_as, fresh_record, fresh}
 use Rattle.model.specs.Step.{apply, entry_outcome, after}
-use Rattle.model.proofs.Laws.{and_left, and_right, only, if_any, all_write_of, sites_apply}
+use Rattle.model.proofs.Laws.{and_left, and_right, only, if_any, all_write_of, sites_apply, kind_at}
 use Rattle.model.proofs.RoundTrip.{length_zone, length_point, length_credential}
 use Rattle.model.specs.declared.Entry.{Entry}
 use Rattle.model.specs.declared.Outcome.{Outcome}
@@ -53,109 +53,154 @@ groups_sized size (suc n) s h =
     let m : suc n * size ≡ n * size + size = native.Mathlib.Nat.suc-mul n size in
     rw (eq-eqb (length (take size s)) size (length-take-le size s (omega arith)), groups_sized size n (drop size s) (simp length-drop (omega arith)))
 
--- ── panels of 32-byte records
+-- ── objects and entries
 
--- The i-th pair is the i-th group of the site with the i-th group of the state.
-pub paired_at : (n i : ℕ) (site state : List ℕ) → i < n → get_or (paired n site state) i ([], []) ≡ (get_or (groups 32 n site) i [], get_or (groups 32 n state) i [])
-unfolding paired groups
-paired_at zero i site state h = absurd (omega arith)
-paired_at (suc n) zero site state h = refl
-paired_at (suc n) (suc i) site state h = paired_at n i (drop 32 site) (drop 32 state) (omega arith)
+-- The kinds of objects: what has one of them has state.
+abbrev pub kept_number : ℕ → Bool
+kept_number k = eqb k access_zone || eqb k access_point || eqb k access_credential
 
-unfoldable pub whole : Pair → Bool
-whole x = eqb (length x.0) 32 && eqb (length x.1) 32
-
-whole_store : (b : List ℕ) → length b ≡ 32 → (x : Pair) → whole x ≡ true → whole (x.0, b) ≡ true
-unfolding whole
-whole_store b l x h = rw (and_left (eqb (length x.0) 32) (eqb (length x.1) 32) h, l)
-
--- Writes keep the records' lengths and leave the site as it is.
-whole_apply : (o : Outcome) (ps : Panel) → all whole ps ≡ true → all whole (apply o ps) ≡ true
-unfolding apply
-whole_apply o ps a =
-    all_write_of whole 2 _ _ o.point _ (if_any _ o.point (λ w x i. whole_store _ (length_point w.state) x))
-    (all_write_of whole 4 _ _ o.credential _ (if_any _ o.credential (λ w x i. whole_store _ (length_credential w.state) x))
-    (all_write_of whole 1 _ _ o.zone_to _ (if_any _ o.zone_to (λ w x i. whole_store _ (length_zone w.state) x))
-    (all_write_of whole 1 _ _ o.zone_from ps (if_any _ o.zone_from (λ w x i. whole_store _ (length_zone w.state) x)) a)))
-
-pub whole_after : (es : List Entry) (ps : Panel) → all whole ps ≡ true → all whole (after ps es) ≡ true
-unfolding after
-whole_after [] ps a = a
-whole_after (e ∷ es) ps a = whole_after es (apply (entry_outcome ps e) ps) (whole_apply (entry_outcome ps e) ps a)
+pub kept_at : (k i : ℕ) (s : List ℕ) → kept_number k ≡ true → is_at k i s ≡ true → kept s ≡ true
+unfolding kept
+kept_at k i s o e =
+    let n : kept_number (kind s) ≡ true = rw (kind_at k i s e) o in
+    go (eqb (kind s) access_zone) (eqb (kind s) access_point) (eqb (kind s) access_credential) refl n
+  where
+    go : (a b c : Bool) → eqb (kind s) access_credential ≡ c → a || b || c ≡ true →
+        kept_kind (if a then Some OfZone else if b then Some OfPoint else if eqb (kind s) 3 then Some OfRule else if c then Some OfCredential else
+        if eqb (kind s) 5 then Some OfFactor else None) ≡ true
+    go true b c e h = refl
+    go false true c e h = refl
+    go false false true e h = rw (eqb-true (kind s) 4 e) refl
+    go false false false e h = cc
 
 pub sites_after : (es : List Entry) (ps : Panel) → sites (after ps es) ≡ sites ps
 unfolding after
 sites_after [] ps = refl
 sites_after (e ∷ es) ps = sites_after es (apply (entry_outcome ps e) ps) ∙ sites_apply (entry_outcome ps e) ps
 
--- The site of a panel is the site's records.
-sites_paired : (k : ℕ) (site state : List ℕ) → sites (paired k site state) ≡ groups 32 k site
-unfolding paired groups
-sites_paired zero site state = refl
-sites_paired (suc k) site state = ap (λ ss. take 32 site ∷ ss) (sites_paired k (drop 32 site) (drop 32 state))
+-- ── panels of site records with their bytes of state, of any size
 
-pub sites_panel : (site state : List ℕ) → sites (panel site state) ≡ records site
-unfolding panel records
-sites_panel site state = sites_paired (length site / 32) site state
+module _ (size : List ℕ → ℕ) where
+  -- As many bytes as all of them have.
+  abbrev pub total : List (List ℕ) → ℕ
+  total [] = 0
+  total (s ∷ ss) = size s + total ss
 
--- Site and state of one length make whole records.
-whole_paired : (k : ℕ) (site state : List ℕ) → length site ≡ k * 32 → length state ≡ k * 32 → all whole (paired k site state) ≡ true
-unfolding paired whole
-whole_paired zero site state h g = refl
-whole_paired (suc k) site state h g =
-    rw (length-take-le 32 site (omega arith), length-take-le 32 state (omega arith), whole_paired k (drop 32 site) (drop 32 state) (simp length-drop (omega arith)) (simp length-drop (omega arith)))
+  -- A pair has the bytes of state that it should.
+  abbrev pub whole : Pair → Bool
+  whole x = eqb (length x.1) (size x.0)
 
--- The panel of the bytes that a panel holds is the panel.
-paired_flatten : (ps : Panel) → all whole ps ≡ true → paired (length ps) (flatten (sites ps)) (state_of ps) ≡ ps
-unfolding paired state_of flatten whole
-paired_flatten [] a = refl
-paired_flatten (x ∷ xs) a =
-    let w = and_left (whole x) (all whole xs) a in
-    let l = eqb-true (length x.0) 32 (and_left (eqb (length x.0) 32) (eqb (length x.1) 32) w) in
-    let m = eqb-true (length x.1) 32 (and_right (eqb (length x.0) 32) (eqb (length x.1) 32) w) in
-    rw (take_at x.0 (flatten (sites xs)) 32 l, drop_at x.0 (flatten (sites xs)) 32 l, take_at x.1 (state_of xs) 32 m, drop_at x.1 (state_of xs) 32 m, paired_flatten xs (and_right (whole x) (all whole xs) a))
+  pub sites_paired : (ss : List (List ℕ)) (state : List ℕ) → sites (paired size ss state) ≡ ss
+  unfolding paired
+  sites_paired [] state = refl
+  sites_paired (s ∷ ss) state = ap (λ rs. s ∷ rs) (sites_paired ss (drop (size s) state))
 
--- Its state records have 32 bytes each.
-sized : (ps : Panel) → all whole ps ≡ true → Sized 32 (map (λ (x : Pair). x.1) ps) ≡ true
-unfolding whole
-sized [] a = refl
-sized (x ∷ xs) a =
-    rw (and_right (eqb (length x.0) 32) (eqb (length x.1) 32) (and_left (whole x) (all whole xs) a), sized xs (and_right (whole x) (all whole xs) a))
+  pub whole_paired : (ss : List (List ℕ)) (state : List ℕ) → total ss ≤ length state → all whole (paired size ss state) ≡ true
+  unfolding paired
+  whole_paired [] state h = refl
+  whole_paired (s ∷ ss) state h =
+      rw (
+        eq-eqb (length (take (size s) state)) (size s) (length-take-le (size s) state (omega (arith, h))),
+        whole_paired ss (drop (size s) state) (simp length-drop (omega (arith, h))),
+      ) refl
 
--- ── a site of whole records
+  -- The panel of the bytes that a panel holds is the panel.
+  pub paired_back : (ps : Panel) → all whole ps ≡ true → paired size (sites ps) (state_of ps) ≡ ps
+  unfolding paired state_of flatten
+  paired_back [] a = refl
+  paired_back (x ∷ xs) a =
+      let l = eqb-true (length x.1) (size x.0) (and_left (whole x) (all whole xs) a) in
+      rw (take_at x.1 (state_of xs) (size x.0) l, drop_at x.1 (state_of xs) (size x.0) l, paired_back xs (and_right (whole x) (all whole xs) a))
 
-module _ (site : List ℕ) (whole_site : length site % 32 ≡ 0) where
-  length_site : length site ≡ length site / 32 * 32
-  length_site = omega arith
+  pub length_state_of : (ps : Panel) → all whole ps ≡ true → length (state_of ps) ≡ total (sites ps)
+  unfolding state_of flatten
+  length_state_of [] a = refl
+  length_state_of (x ∷ xs) a =
+      let l = eqb-true (length x.1) (size x.0) (and_left (whole x) (all whole xs) a) in
+      simp length-append (omega (arith, l, length_state_of xs (and_right (whole x) (all whole xs) a)))
 
-  pub panel_state_of_law : (ps : Panel) → sites ps ≡ records site → all whole ps ≡ true → panel site (state_of ps) ≡ ps
-  unfolding panel records
-  panel_state_of_law ps s a =
-      let n : length ps ≡ length site / 32 = sym (length-map ps (λ (x : Pair). x.0)) ∙ ap length s ∙ length_groups 32 (length site / 32) site in
-      let j : flatten (sites ps) ≡ site = ap flatten s ∙ joined_back 32 (length site / 32) site length_site in
-      rw (n, j) at (paired_flatten ps a)
+  -- The bytes that a panel of bytes holds are these.
+  pub state_of_paired : (ss : List (List ℕ)) (state : List ℕ) → length state ≡ total ss → state_of (paired size ss state) ≡ state
+  unfolding paired state_of flatten
+  state_of_paired [] [] h = refl
+  state_of_paired [] (b ∷ state) h = absurd (omega (arith, h))
+  state_of_paired (s ∷ ss) state h =
+      rw (state_of_paired ss (drop (size s) state) (simp length-drop (omega (arith, h)))) (take-append-drop (size s) state)
 
-  -- The state that a panel of that site holds is as long as the site.
-  pub length_state_of_law : (ps : Panel) → sites ps ≡ records site → all whole ps ≡ true → length (state_of ps) ≡ length site
-  unfolding records state_of
-  length_state_of_law ps s a =
-      let n : length ps ≡ length site / 32 = sym (length-map ps (λ (x : Pair). x.0)) ∙ ap length s ∙ length_groups 32 (length site / 32) site in
-      let m = length-map ps (λ (x : Pair). x.1) in
-      omega (arith, length_flatten 32 (map (λ (x : Pair). x.1) ps) (sized ps a), n, m, length_site)
+  -- Where what has state has 32 bytes of it, writes keep the records' lengths.
+  module _ (has : (s : List ℕ) → kept s ≡ true → size s ≡ 32) where
+    whole_store : (k i : ℕ) (b : List ℕ) → kept_number k ≡ true → length b ≡ 32 → (x : Pair) → is_at k i x.0 ≡ true → whole x ≡ true → whole (x.0, b) ≡ true
+    whole_store k i b o l x e h = rw (l, has x.0 (kept_at k i x.0 o e))
 
-  module _ (state : List ℕ) (same_length : length state ≡ length site) where
-    pub whole_panel : all whole (panel site state) ≡ true
-    unfolding panel
-    whole_panel = whole_paired (length site / 32) site state length_site (same_length ∙ length_site)
+    whole_apply : (o : Outcome) (ps : Panel) → all whole ps ≡ true → all whole (apply o ps) ≡ true
+    unfolding apply
+    whole_apply o ps a =
+        all_write_of whole 2 _ _ o.point _ (if_any _ o.point (λ w x i. whole_store 2 _ _ refl (length_point w.state) x i))
+        (all_write_of whole 4 _ _ o.credential _ (if_any _ o.credential (λ w x i. whole_store 4 _ _ refl (length_credential w.state) x i))
+        (all_write_of whole 1 _ _ o.zone_to _ (if_any _ o.zone_to (λ w x i. whole_store 1 _ _ refl (length_zone w.state) x i))
+        (all_write_of whole 1 _ _ o.zone_from ps (if_any _ o.zone_from (λ w x i. whole_store 1 _ _ refl (length_zone w.state) x i)) a)))
+
+    whole_after : (es : List Entry) (ps : Panel) → all whole ps ≡ true → all whole (after ps es) ≡ true
+    unfolding after
+    whole_after [] ps a = a
+    whole_after (e ∷ es) ps a = whole_after es (apply (entry_outcome ps e) ps) (whole_apply (entry_outcome ps e) ps a)
 
     -- The bytes that entries leave, read as a panel again.
-    pub panel_back : (es : List Entry) → panel site (state_of (after (panel site state) es)) ≡ after (panel site state) es
-    panel_back es =
-        panel_state_of_law (after (panel site state) es) (sites_after es (panel site state) ∙ sites_panel site state) (whole_after es (panel site state) whole_panel)
+    module _ (ss : List (List ℕ)) (state : List ℕ) (h : total ss ≤ length state) (es : List Entry) where
+      abbrev left : Panel
+      left = after (paired size ss state) es
 
-    pub length_back : (es : List Entry) → length (state_of (after (panel site state) es)) ≡ length site
-    length_back es =
-        length_state_of_law (after (panel site state) es) (sites_after es (panel site state) ∙ sites_panel site state) (whole_after es (panel site state) whole_panel)
+      left_sites : sites left ≡ ss
+      left_sites = sites_after es (paired size ss state) ∙ sites_paired ss state
+
+      pub after_back : paired size ss (state_of left) ≡ left
+      after_back = rw left_sites at (paired_back left (whole_after es (paired size ss state) (whole_paired ss state h)))
+
+      pub length_after : length (state_of left) ≡ total ss
+      length_after = length_state_of left (whole_after es (paired size ss state) (whole_paired ss state h)) ∙ ap total left_sites
+
+-- ── the panel of a site
+
+size_kept : (s : List ℕ) → kept s ≡ true → state_size s ≡ 32
+unfolding state_size
+size_kept s h = rw h
+
+-- The bytes of state that records have: 32 for each of them that has state.
+pub total_kept : (ss : List (List ℕ)) → total state_size ss ≡ 32 * length (keep kept ss)
+unfolding state_size
+total_kept [] = refl
+total_kept (s ∷ ss) = go (kept s) (total_kept ss)
+  where
+    go : (c : Bool) → total state_size ss ≡ 32 * length (keep kept ss) →
+        (if c then 32 else 0) + total state_size ss ≡ 32 * length (if c then s ∷ keep kept ss else keep kept ss)
+    go true ih = omega (arith, ih)
+    go false ih = omega (arith, ih)
+
+pub total_state : (site : List ℕ) → total state_size (records site) ≡ state_length site
+unfolding state_length
+total_state site = total_kept (records site)
+
+pub sites_panel : (site state : List ℕ) → sites (panel site state) ≡ records site
+unfolding panel
+sites_panel site state = sites_paired state_size (records site) state
+
+module _ (site state : List ℕ) (same_length : length state ≡ state_length site) where
+  fits : total state_size (records site) ≤ length state
+  fits = omega (arith, same_length, total_state site)
+
+  -- The state is what its panel holds.
+  pub state_of_panel : state_of (panel site state) ≡ state
+  unfolding panel
+  state_of_panel = state_of_paired state_size (records site) state (same_length ∙ sym (total_state site))
+
+  -- The bytes that entries leave, read as a panel again.
+  pub panel_back : (es : List Entry) → panel site (state_of (after (panel site state) es)) ≡ after (panel site state) es
+  unfolding panel
+  panel_back es = after_back state_size size_kept (records site) state fits es
+
+  pub length_back : (es : List Entry) → length (state_of (after (panel site state) es)) ≡ state_length site
+  unfolding panel
+  length_back es = length_after state_size size_kept (records site) state fits es ∙ total_state site
 
 -- ── the fresh state
 
@@ -186,11 +231,11 @@ find_fresh q (s ∷ ss) g = go (q s) g (find_fresh q ss)
     go true g ih = refl
     go false g ih = ih g
 
-pub length_fresh_record_law : (s : List ℕ) → length (fresh_record s) ≡ 32
-unfolding fresh_record
-length_fresh_record_law s = go (record_kind s)
+pub length_fresh_record : (s : List ℕ) → length (fresh_record s) ≡ state_size s
+unfolding fresh_record state_size kept
+length_fresh_record s = go (record_kind s)
   where
-    go : (k : Option RecordKind) → length (fresh_record_as k s) ≡ 32
+    go : (k : Option RecordKind) → length (fresh_record_as k s) ≡ (if kept_kind k then 32 else 0)
     go (Some OfZone) = refl
     go (Some OfPoint) = length_point fresh_point
     go (Some OfRule) = refl
@@ -198,23 +243,22 @@ length_fresh_record_law s = go (record_kind s)
     go (Some OfFactor) = refl
     go None = refl
 
-whole_fresh : (k : ℕ) (site : List ℕ) → length site ≡ k * 32 → all whole (fresh_panel (groups 32 k site)) ≡ true
-unfolding groups whole
-whole_fresh zero site h = refl
-whole_fresh (suc k) site h =
-    rw (length-take-le 32 site (omega arith), length_fresh_record_law (take 32 site), whole_fresh k (drop 32 site) (simp length-drop (omega arith)))
+whole_fresh : (ss : List (List ℕ)) → all (whole state_size) (fresh_panel ss) ≡ true
+whole_fresh [] = refl
+whole_fresh (s ∷ ss) = rw (eq-eqb (length (fresh_record s)) (state_size s) (length_fresh_record s), whole_fresh ss)
 
-state_of_fresh_law : (ss : List (List ℕ)) → state_of (fresh_panel ss) ≡ flatten (map fresh_record ss)
+pub state_of_fresh_law : (ss : List (List ℕ)) → state_of (fresh_panel ss) ≡ flatten (map fresh_record ss)
 unfolding state_of
 state_of_fresh_law ss = ap flatten (map-map (λ (x : Pair). x.1) (λ (s : List ℕ). (s, fresh_record s)) ss)
 
--- The bytes of the fresh state make the fresh panel, and are as long as the site.
-pub panel_fresh : (site : List ℕ) → length site % 32 ≡ 0 → panel site (fresh site) ≡ fresh_panel (records site)
-unfolding fresh
-panel_fresh site h =
-    rw (← state_of_fresh_law (records site)) (panel_state_of_law site h (fresh_panel (records site)) (sites_fresh (records site)) (unfold records in whole_fresh (length site / 32) site (omega arith)))
+-- The bytes of the fresh state make the fresh panel, and are as long as a state of the site is.
+pub panel_fresh : (site : List ℕ) → panel site (fresh site) ≡ fresh_panel (records site)
+unfolding panel fresh
+panel_fresh site =
+    let b = paired_back state_size (fresh_panel (records site)) (whole_fresh (records site)) in
+    rw (← state_of_fresh_law (records site)) (rw (sites_fresh (records site)) at b)
 
-pub length_fresh : (site : List ℕ) → length site % 32 ≡ 0 → length (fresh site) ≡ length site
+pub length_fresh : (site : List ℕ) → length (fresh site) ≡ state_length site
 unfolding fresh
-length_fresh site h =
-    rw (← state_of_fresh_law (records site)) (length_state_of_law site h (fresh_panel (records site)) (sites_fresh (records site)) (unfold records in whole_fresh (length site / 32) site (omega arith)))
+length_fresh site =
+    rw (← state_of_fresh_law (records site)) (length_state_of state_size (fresh_panel (records site)) (whole_fresh (records site)) ∙ ap (total state_size) (sites_fresh (records site)) ∙ total_state site)

@@ -465,5 +465,5 @@ grant_earned site state r i w l g =
     let k = well_after (records site) accept.names_all_exist (take i es) (panel site state) (sites_panel site state) passed_run.well in
     let v : (entry_outcome ps e).answer.event ≡ 1 = sym (ap event_in a ∙ event_back (entry_outcome ps e).answer) ∙ g in
     let m = earned_entry ps e (rw s k) v in
-    let b : panel site (run_on site state (first_of i r)).state ≡ ps = ap (panel site) (state_at site state r w i (omega arith)) ∙ panel_back site accept.whole_records state long (take i es) in
+    let b : panel site (run_on site state (first_of i r)).state ≡ ps = ap (panel site) (state_at site state r w i (omega arith)) ∙ panel_back site state long (take i es) in
     (m.0, rw (b, ap credential_in a ∙ credential_named_back (entry_outcome ps e).answer) m.1)

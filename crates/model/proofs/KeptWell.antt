@@ -10,7 +10,7 @@ use borrow.Author.Tests.{eq-eqb, not-false}
 use Rattle.model.specs.Words.{all}
 use Rattle.model.specs.Numbers as n
 use Rattle.model.specs.Site.{records}
-use Rattle.model.specs.State.{panel, fresh, well_formed}
+use Rattle.model.specs.State.{panel, state_length, fresh, well_formed}
 use Rattle.model.specs.Entry.{entry_of}
 use Rattle.model.specs.Calls.{Returned, is_worked, check_site, fresh_returned, fresh_state, check_state, run_returned, run_journal}
 use Rattle.model.specs.Lists.{Run, run_on, state_after, returns, History, begun, ended}
@@ -32,10 +32,10 @@ abbrev pub run_entries : List Run → List (List ℕ)
 run_entries [] = []
 run_entries (r ∷ rs) = entries_by [] [] r ++ run_entries rs
 
--- A state that a run takes: its site is accepted, and it is as long as the site and well formed.
+-- A state that a run takes: its site is accepted, and it is as long as its states are and well formed.
 pub record Taken (site state : List ℕ) : Type 0 where
   pub site_accepts : check_site site ≡ Ok tt
-  pub as_long : length state ≡ length site
+  pub as_long : length state ≡ state_length site
   pub well : well_formed site state ≡ true
 
 pub state_taken : (site state : List ℕ) → check_state site state ≡ Ok tt → Taken site state
@@ -50,7 +50,7 @@ state_taken site state h =
 
 pub taken_state : (site state : List ℕ) → Taken site state → check_state site state ≡ Ok tt
 unfolding check_state fresh_returned is_worked
-taken_state site state t = rw (t.site_accepts, t.as_long, eq-eqb (length site) (length site) refl, t.well)
+taken_state site state t = rw (t.site_accepts, t.as_long, eq-eqb (state_length site) (state_length site) refl, t.well)
 
 -- The empty site has such a state.
 empty_taken : check_state [] [] ≡ Ok tt
@@ -69,9 +69,9 @@ module _ (site state : List ℕ) (t : Taken site state) (r : Run) where
       let a = site_accepted site t.site_accepts in
       record {
         site_accepts = t.site_accepts;
-        as_long = run_length site state r a.whole_records t.as_long;
+        as_long = run_length site state r t.as_long;
         well =
-            rw (run_panel site state r a.whole_records t.as_long)
+            rw (run_panel site state r t.as_long)
             (well_after (records site) a.names_all_exist (map entry_of (entries_by site state r)) (panel site state) (sites_panel site state) t.well);
       }
 
@@ -110,8 +110,8 @@ fresh_taken site accept =
     let a = site_accepted site accept in
     record {
       site_accepts = accept;
-      as_long = length_fresh site a.whole_records;
-      well = rw (panel_fresh site a.whole_records) (well_fresh (records site) (records site) a.fields_in_range);
+      as_long = length_fresh site;
+      well = rw (panel_fresh site) (well_fresh (records site) (records site) a.fields_in_range);
     }
 
 -- A list of runs from fresh starts with such a state.

@@ -9,6 +9,7 @@ pub mod Laws
 pub mod SameOutcome
 pub mod RoundTrip
 pub mod Flat
+pub mod StatePlaces
 pub mod Runs
 pub mod Entries
 pub mod Whole

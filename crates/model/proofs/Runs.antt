@@ -12,7 +12,7 @@ use Rattle.model.specs.Words.{all, missing}
 use Rattle.model.specs.Numbers.{NONE}
 use Rattle.model.specs.Site.{records, instance, is_at, find_in}
 use Rattle.model.specs.Accept.{in_range, twice, exists, names_exist}
-use Rattle.model.specs.State.{Panel, panel, state_of, fresh}
+use Rattle.model.specs.State.{Panel, panel, state_length, state_of, fresh}
 use Rattle.model.specs.Entry.{entry_of, entries, answer_bytes}
 use Rattle.model.specs.Step.{apply, entry_outcome, panels, after, answers}
 use Rattle.model.specs.Calls.{Returned, is_worked, check_site, fresh_returned, fresh_state, run_returned, run_journal}
@@ -78,7 +78,7 @@ pub site_worked : (site state : List ℕ) → fresh_returned site state ≡ Ok t
 unfolding fresh_returned
 site_worked site state h = go (is_worked (check_site site)) refl h
   where
-    go : (c : Bool) → is_worked (check_site site) ≡ c → (if not c then check_site site else if not (eqb (length state) (length site)) then Err StateLength else Ok tt) ≡ Ok tt →
+    go : (c : Bool) → is_worked (check_site site) ≡ c → (if not c then check_site site else if not (eqb (length state) (state_length site)) then Err StateLength else Ok tt) ≡ Ok tt →
         check_site site ≡ Ok tt
     go true w h = worked_through (check_site site) w
     go false w h = h
@@ -141,21 +141,21 @@ module _ (site state : List ℕ) (r : Run) where
       go true = rw (answers_back (answers (panel site state) (map entry_of es)))
       go false = unfold panels in refl
 
-  module _ (whole_site : length site % 32 ≡ 0) (same_length : length state ≡ length site) where
+  module _ (same_length : length state ≡ state_length site) where
     pub run_panel : panel site (run_on site state r).state ≡ after (panel site state) (map entry_of (entries_by site state r))
     unfolding entries_by after
     run_panel = rw run_state (go (is_worked (run_on site state r).returned))
       where
         go : (c : Bool) → panel site (if c then state_of (after (panel site state) (map entry_of (entries r.journal))) else state)
             ≡ after (panel site state) (map entry_of (if c then entries r.journal else []))
-        go true = panel_back site whole_site state same_length (map entry_of (entries r.journal))
+        go true = panel_back site state same_length (map entry_of (entries r.journal))
         go false = refl
 
-    pub run_length : length (run_on site state r).state ≡ length site
+    pub run_length : length (run_on site state r).state ≡ state_length site
     run_length = rw run_state (go (is_worked (run_on site state r).returned))
       where
-        go : (c : Bool) → length (if c then state_of (after (panel site state) (map entry_of (entries r.journal))) else state) ≡ length site
-        go true = length_back site whole_site state same_length (map entry_of (entries r.journal))
+        go : (c : Bool) → length (if c then state_of (after (panel site state) (map entry_of (entries r.journal))) else state) ≡ state_length site
+        go true = length_back site state same_length (map entry_of (entries r.journal))
         go false = same_length
 
 -- ── a list of runs
@@ -169,30 +169,30 @@ unfolding worked_at panels after answers
 worked_append [] fs ps = refl
 worked_append (e ∷ es) fs ps = ap (λ ws. record { found = ps; entry = e; answer = answer_bytes (entry_outcome ps (entry_of e)).answer } ∷ ws) (worked_append es fs (apply (entry_outcome ps (entry_of e)) ps))
 
-module _ (site : List ℕ) (whole_site : length site % 32 ≡ 0) where
-  pub list_panel : (rs : List Run) (state : List ℕ) → length state ≡ length site →
+module _ (site : List ℕ) where
+  pub list_panel : (rs : List Run) (state : List ℕ) → length state ≡ state_length site →
       panel site (state_after site state rs) ≡ after (panel site state) (map entry_of (entries_in site state rs))
   unfolding state_after entries_in after
   list_panel [] state h = refl
   list_panel (r ∷ rs) state h =
-      list_panel rs (run_on site state r).state (run_length site state r whole_site h)
-      ∙ ap (λ ps. after ps (map entry_of (entries_in site (run_on site state r).state rs))) (run_panel site state r whole_site h)
+      list_panel rs (run_on site state r).state (run_length site state r h)
+      ∙ ap (λ ps. after ps (map entry_of (entries_in site (run_on site state r).state rs))) (run_panel site state r h)
       ∙ sym (after_append (map entry_of (entries_by site state r)) (map entry_of (entries_in site (run_on site state r).state rs)) (panel site state))
       ∙ ap (after (panel site state)) (sym (map-append entry_of (entries_by site state r) (entries_in site (run_on site state r).state rs)))
 
-  pub list_worked : (rs : List Run) (state : List ℕ) → length state ≡ length site →
+  pub list_worked : (rs : List Run) (state : List ℕ) → length state ≡ state_length site →
       worked_in site state rs ≡ worked_at (panel site state) (entries_in site state rs)
   unfolding worked_in entries_in
   list_worked [] state h = unfold worked_at panels in refl
   list_worked (r ∷ rs) state h =
-      ap₂ ◌++◌ (run_worked site state r) (list_worked rs (run_on site state r).state (run_length site state r whole_site h))
-      ∙ ap (λ ps. worked_at (panel site state) (entries_by site state r) ++ worked_at ps (entries_in site (run_on site state r).state rs)) (run_panel site state r whole_site h)
+      ap₂ ◌++◌ (run_worked site state r) (list_worked rs (run_on site state r).state (run_length site state r h))
+      ∙ ap (λ ps. worked_at (panel site state) (entries_by site state r) ++ worked_at ps (entries_in site (run_on site state r).state rs)) (run_panel site state r h)
       ∙ sym (worked_append (entries_by site state r) (entries_in site (run_on site state r).state rs) (panel site state))
 
-  pub list_length : (rs : List Run) (state : List ℕ) → length state ≡ length site → length (state_after site state rs) ≡ length site
+  pub list_length : (rs : List Run) (state : List ℕ) → length state ≡ state_length site → length (state_after site state rs) ≡ state_length site
   unfolding state_after
   list_length [] state h = h
-  list_length (r ∷ rs) state h = list_length rs (run_on site state r).state (run_length site state r whole_site h)
+  list_length (r ∷ rs) state h = list_length rs (run_on site state r).state (run_length site state r h)
 
 -- ── a list of runs from fresh
 
@@ -204,29 +204,29 @@ pub begun_fresh : (h : History) → begun h ≡ fresh h.site
 unfolding begun fresh_state is_worked
 begun_fresh h = rw h.accepted
 
-pub begun_length : (h : History) → length (begun h) ≡ length h.site
-begun_length h = rw (begun_fresh h) (length_fresh h.site (accepted h).whole_records)
+pub begun_length : (h : History) → length (begun h) ≡ state_length h.site
+begun_length h = rw (begun_fresh h) (length_fresh h.site)
 
 pub begun_panel : (h : History) → panel h.site (begun h) ≡ fresh_panel (records h.site)
-begun_panel h = rw (begun_fresh h) (panel_fresh h.site (accepted h).whole_records)
+begun_panel h = rw (begun_fresh h) (panel_fresh h.site)
 
 unfoldable pub all_entries : History → List (List ℕ)
 all_entries h = entries_in h.site (begun h) h.runs
 
-pub ended_length : (h : History) → length (ended h) ≡ length h.site
+pub ended_length : (h : History) → length (ended h) ≡ state_length h.site
 unfolding ended
-ended_length h = list_length h.site (accepted h).whole_records h.runs (begun h) (begun_length h)
+ended_length h = list_length h.site h.runs (begun h) (begun_length h)
 
 pub ended_panel : (h : History) → panel h.site (ended h) ≡ after (fresh_panel (records h.site)) (map entry_of (all_entries h))
 unfolding ended all_entries
 ended_panel h =
-    list_panel h.site (accepted h).whole_records h.runs (begun h) (begun_length h)
+    list_panel h.site h.runs (begun h) (begun_length h)
     ∙ ap (λ ps. after ps (map entry_of (entries_in h.site (begun h) h.runs))) (begun_panel h)
 
 pub worked_list : (h : History) → worked h ≡ worked_at (fresh_panel (records h.site)) (all_entries h)
 unfolding worked all_entries
 worked_list h =
-    list_worked h.site (accepted h).whole_records h.runs (begun h) (begun_length h)
+    list_worked h.site h.runs (begun h) (begun_length h)
     ∙ ap (λ ps. worked_at ps (entries_in h.site (begun h) h.runs)) (begun_panel h)
 
 -- An object of the site: its record, its number, its place in the fresh panel.

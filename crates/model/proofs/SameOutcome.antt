@@ -2,13 +2,13 @@
 use Rattle.std.specs.Prelude.{Option, Some, None}
 use Prim.Native.Nat.{ℕ}
 use mathlib.Core.Path.{◌≡◌, refl}
-use mathlib.Core.Bool.{false}
-use lib.Dec.{eqb}
+use mathlib.Core.Bool.{true}
 use Rattle.model.specs.Numbers as n
 use Rattle.model.specs.State.{Pair, Panel, sites, find, seek}
 use Rattle.model.specs.Entry.{operation_of, object_kind, in_form}
 use Rattle.model.specs.Checks.{factor_for, verdict}
 use Rattle.model.specs.Step.{factor_read, number_read, zone_to, zone_from, credential_at, situation_of, rules_at, factor_outcome, outcome_as, entry_outcome}
+use Rattle.model.proofs.Flat.{kept_number}
 use Rattle.model.specs.declared.ZoneId.{ZoneId}
 use Rattle.model.specs.declared.PointId.{PointId}
 use Rattle.model.specs.declared.CredentialId.{CredentialId}
@@ -19,13 +19,13 @@ use Rattle.model.specs.declared.Operation.TheVariants.{Factor, SetCount, AdjustC
 
 -- They find the same objects with the same state, the same factors, and rules that say the same.
 pub record Agree (ps qs : Panel) : Type 0 where
-  pub objects : (k i : ℕ) → eqb k n.access_rule ≡ false → find k i ps ≡ find k i qs
+  pub objects : (k i : ℕ) → kept_number k ≡ true → find k i ps ≡ find k i qs
   pub factors : (c : CredentialId) (e : Entry) → factor_for c e (sites ps) ≡ factor_for c e (sites qs)
   pub rules : (first second : RightsId) (point : PointId) (to : ZoneId) (time : ℕ) →
       verdict first second point to time (sites ps) ≡ verdict first second point to time (sites qs)
 
 module _ (ps qs : Panel) (a : Agree ps qs) where
-  seek_agree : (k i : ℕ) → eqb k n.access_rule ≡ false → seek k i ps ≡ seek k i qs
+  seek_agree : (k i : ℕ) → kept_number k ≡ true → seek k i ps ≡ seek k i qs
   unfolding seek
   seek_agree k i h = rw (a.objects k i h)
 

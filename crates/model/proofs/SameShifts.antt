@@ -5,7 +5,7 @@ use mathlib.Core.Path.{◌≡◌, refl, sym, ◌∙◌, ap}
 use mathlib.Core.List.{List, [], ◌∷◌, map}
 use mathlib.Core.Bool.{Bool, true, false, not, ◌&&◌, ◌||◌, or-true, or_self, and-or_distrib_left, false≢true}
 use lib.Dec.{eqb}
-use borrow.Author.Tests.{eqb-true}
+use borrow.Author.Tests.{eqb-true, ne_eqb}
 use Rattle.octets.specs.Octets.{same}
 use Rattle.octets.proofs.Laws.{same_eq}
 use Rattle.model.specs.Words.{keep, any, all}
@@ -28,7 +28,7 @@ use Rattle.model.specs.declared.Entry.{Entry}
 use Rattle.model.specs.declared.Outcome.{Outcome}
 use Rattle.model.proofs.Laws.{and_left, and_right, kind_at, only, only_apply, find_only, sites_only, find_keep, sites_apply}
 use Rattle.model.proofs.SameOutcome.{Agree, outcome_agree}
-use Rattle.model.proofs.Flat.{sites_panel, fresh_panel, only_fresh, panel_fresh}
+use Rattle.model.proofs.Flat.{kept_number, sites_panel, fresh_panel, only_fresh, panel_fresh}
 use Rattle.model.proofs.Runs.{site_accepted, worked_at, list_panel, list_worked}
 use Rattle.model.proofs.KeptWell.{run_entries, state_taken, taken_state, list_well, fresh_taken}
 use Rattle.model.proofs.Shifts.{whole_rule, Like, until_like, since_like, fits_halves, shift_rule}
@@ -182,6 +182,9 @@ record ButRules (ps qs : Panel) : Type 0 where
 pub kind_not_rule : (k : ℕ) → eqb k n.access_rule ≡ false → (s : List ℕ) → kind s ≡ k → not_rule s ≡ true
 kind_not_rule k h s e = rw (e, h)
 
+kept_not_rule : (k : ℕ) → kept_number k ≡ true → eqb k n.access_rule ≡ false
+kept_not_rule k h = ne_eqb k n.access_rule (λ e. let z : false ≡ true = rw e at h in cc)
+
 module _ (ps : Panel) where
   find_other : (k i : ℕ) → eqb k n.access_rule ≡ false → find k i (only not_rule ps) ≡ find k i ps
   unfolding find
@@ -211,7 +214,7 @@ module _ (ps : Panel) where
 but_rules_agree : (ps qs : Panel) → ButRules ps qs → Agree ps qs
 but_rules_agree ps qs b =
     record {
-      objects = λ k i h. sym (find_other ps k i h) ∙ ap (find k i) b.same_others ∙ find_other qs k i h;
+      objects = λ k i h. let r = kept_not_rule k h in sym (find_other ps k i r) ∙ ap (find k i) b.same_others ∙ find_other qs k i r;
       factors = λ c e. sym (factor_other ps c e) ∙ ap (λ xs. factor_for c e (sites xs)) b.same_others ∙ factor_other qs c e;
       rules = b.same_rules;
     }
@@ -250,15 +253,14 @@ same_shifts site other state beside w rs =
     let s = state_taken site state w.taken in
     let o = state_taken other beside w.taken_beside in
     let whole = site_accepted site s.site_accepts in
-    let whole_other = site_accepted other o.site_accepts in
     let one = list_well site rs state s in
     let two = list_well other rs beside o in
     let start = but_rules site other state beside whole.fields_in_range w in
     let list = same_list (map entry_of (run_entries rs)) (panel site state) (panel other beside) start in (
       one.returned ∙ sym two.returned,
       rw (
-        list_worked site whole.whole_records rs state s.as_long,
-        list_worked other whole_other.whole_records rs beside o.as_long,
+        list_worked site rs state s.as_long,
+        list_worked other rs beside o.as_long,
         one.entered,
         two.entered,
         worked_answers (run_entries rs) (panel site state),
@@ -271,8 +273,8 @@ same_shifts site other state beside w rs =
         shifts = w.shifts;
         states =
             rw (
-              list_panel site whole.whole_records rs state s.as_long,
-              list_panel other whole_other.whole_records rs beside o.as_long,
+              list_panel site rs state s.as_long,
+              list_panel other rs beside o.as_long,
               one.entered,
               two.entered,
             )
@@ -292,13 +294,11 @@ same_shifts site other state beside w rs =
 pub fresh_shifts : FreshShifts
 unfolding FreshShifts others
 fresh_shifts site other s o d =
-    let whole = site_accepted site s in
-    let whole_other = site_accepted other o in
     record {
       taken = taken_state site (fresh site) (fresh_taken site s);
       taken_beside = taken_state other (fresh other) (fresh_taken other o);
       shifts = d;
       states =
-          rw (panel_fresh site whole.whole_records, panel_fresh other whole_other.whole_records)
+          rw (panel_fresh site, panel_fresh other)
           (only_fresh not_rule (records site) ∙ ap fresh_panel d.others ∙ sym (only_fresh not_rule (records other)));
     }

@@ -15,6 +15,7 @@ use Rattle.model.specs.Effects.{answer_with, outcome_with, outcome_of}
 use Rattle.model.specs.Step.{no_answer, unchanged, refuse, factor_outcome, count_outcome, adjusted, adjust_outcome, disable_outcome, service_outcome, worked_outcome, entry_outcome, apply, after}
 use Rattle.model.specs.Calls.{fresh_state, run_journal}
 use Rattle.model.specs.Lists.{run_on, refusal_in}
+use Rattle.model.specs.Longer.{shorten_state, lengthen_state}
 use Rattle.model.specs.Demands.{TurnedBack, Refused}
 use Rattle.model.proofs.Laws.{if_holds}
 use Rattle.model.proofs.Outcomes.{entry_holds}
@@ -27,8 +28,8 @@ use Rattle.model.specs.declared.Operation.{Operation}
 use Rattle.model.specs.declared.Operation.TheVariants.{Factor, SetCount, AdjustCount, SetDisable, SetService}
 
 pub turned_back : TurnedBack
-unfolding TurnedBack fresh_state run_on run_journal
-turned_back site state r = (λ w. rw w, λ w. (rw w, rw w))
+unfolding TurnedBack fresh_state run_on run_journal shorten_state lengthen_state
+turned_back site state long r = (λ w. rw w, λ w. (rw w, rw w), λ w. rw w, λ w. rw w)
 
 -- ── an outcome whose answer refuses is a refusal
 

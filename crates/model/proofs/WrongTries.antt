@@ -368,7 +368,7 @@ grant_below_most site state rs c before later w s k = taken (is_worked (check_st
         let a = site_accepted site t.site_accepts in
         grant_finds c (real_number n.access_credential c (records site) a.fields_in_range g) (most_tries c site) z (entries_in site state rs) (panel site state) (tries_in c site state)
         (rw (sites_panel site state) g) (unfold most_tries in rw (sites_panel site state)) (below_taken site state c t z) before later w
-        (sym (list_worked site a.whole_records rs state t.as_long) ∙ s) k
+        (sym (list_worked site rs state t.as_long) ∙ s) k
 
     there : Taken site state → (b : Bool) → missing (find_in (is_credential c) (records site)) ≡ b → Finds
     there t true g = unfold most_tries credential_of field in rw (not_there (find_in (is_credential c) (records site)) g)

@@ -6,7 +6,7 @@ use Rattle.model.specs.Words.{all}
 use Rattle.model.specs.Numbers as n
 use Rattle.model.specs.Site.{records}
 use Rattle.model.specs.Accept.{in_range, twice, names_exist}
-use Rattle.model.specs.State.{panel, state_of, fresh, well_formed}
+use Rattle.model.specs.State.{Panel, panel, state_length, state_of, fresh, well_formed}
 use Rattle.model.specs.Entry.{entries, entry_of, answer_bytes}
 use Rattle.model.specs.Step.{after, answers}
 use Rattle.model.specs.declared.Refusal.{Refusal}
@@ -44,28 +44,29 @@ check_site site =
     if not (all (names_exist (records site)) (records site)) then Err SiteMissing else
     Ok tt
 
--- ── the fresh state: "Fresh stops after 5": "5 state not as long as the site"
+-- ── the fresh state: "Fresh stops after 5": "5 state not as long as the site"; document 02, job 8: "Refusal 5 now compares with 32 times their
+-- number", that of zones, points and credentials
 
--- What the call gives: what it returns, and the later contents of the state.
-pub record FreshResult : Type 0 where
+-- What a call that writes a state gives: what it returns, and the later contents of the state.
+pub record StateResult : Type 0 where
   pub returned : Returned
   pub state : List ℕ
 
 -- The same as a record of its parts.
-abbrev pub fresh_result : Returned → List ℕ → FreshResult
-fresh_result returned state = record { returned = returned; state = state }
+abbrev pub state_result : Returned → List ℕ → StateResult
+state_result returned state = record { returned = returned; state = state }
 
 -- Refusals 1 to 5 in their order.
 unfoldable pub fresh_returned : List ℕ → List ℕ → Returned
 fresh_returned site state =
     if not (is_worked (check_site site)) then check_site site else
-    if not (eqb (length state) (length site)) then Err StateLength else
+    if not (eqb (length state) (state_length site)) then Err StateLength else
     Ok tt
 
 -- The call: the fresh state, or the state as it was.
-unfoldable pub fresh_state : List ℕ → List ℕ → FreshResult
+unfoldable pub fresh_state : List ℕ → List ℕ → StateResult
 fresh_state site state =
-    fresh_result (fresh_returned site state) (if is_worked (fresh_returned site state) then fresh site else state)
+    state_result (fresh_returned site state) (if is_worked (fresh_returned site state) then fresh site else state)
 
 -- ── the state check: "6 state not well formed"
 
@@ -88,23 +89,28 @@ pub record RunResult : Type 0 where
 abbrev pub run_result : Returned → List ℕ → List ℕ → RunResult
 run_result returned state answers = record { returned = returned; state = state; answers = answers }
 
--- Refusals 1 to 6, 10, 11 in their order.
-unfoldable pub run_returned : List ℕ → List ℕ → List ℕ → List ℕ → Returned
-run_returned site state journal answered =
-    if not (is_worked (check_state site state)) then check_state site state else
+-- Refusals 10 and 11, after what the state check returned.
+abbrev pub journal_returned : Returned → List ℕ → List ℕ → Returned
+journal_returned checked journal answered =
+    if not (is_worked checked) then checked else
     if not (eqb (length journal % n.entry_size) 0) || ltb n.largest_journal (length journal) then Err JournalLength else
     if not (eqb (length answered) (length journal / n.entry_size * n.answer_size)) then Err AnswersLength else
     Ok tt
 
+-- Refusals 1 to 6, 10, 11 in their order.
+unfoldable pub run_returned : List ℕ → List ℕ → List ℕ → List ℕ → Returned
+run_returned site state journal answered = journal_returned (check_state site state) journal answered
+
+-- What is returned, with the state and the answers that the entries leave at a panel, or both as they were.
+abbrev pub run_at : Returned → Panel → List ℕ → List ℕ → List ℕ → RunResult
+run_at returned ps state journal answered =
+    record {
+      returned = returned;
+      state = if is_worked returned then state_of (after ps (map entry_of (entries journal))) else state;
+      answers = if is_worked returned then flatten (map answer_bytes (answers ps (map entry_of (entries journal)))) else answered;
+    }
+
 -- The call: state and answers of the entries, or both as they were.
 unfoldable pub run_journal : List ℕ → List ℕ → List ℕ → List ℕ → RunResult
 run_journal site state journal answered =
-    record {
-      returned = run_returned site state journal answered;
-      state =
-          if is_worked (run_returned site state journal answered)
-          then state_of (after (panel site state) (map entry_of (entries journal))) else state;
-      answers =
-          if is_worked (run_returned site state journal answered)
-          then flatten (map answer_bytes (answers (panel site state) (map entry_of (entries journal)))) else answered;
-    }
+    run_at (run_returned site state journal answered) (panel site state) state journal answered

@@ -7,12 +7,12 @@ use Rattle.model.specs.Words.{all}
 use Rattle.model.specs.Numbers as n
 use Rattle.model.specs.Site.{credential_id, records}
 use Rattle.model.specs.Accept.{in_range, exists}
-use Rattle.model.specs.State.{panel, fresh, well_formed}
+use Rattle.model.specs.State.{panel, kept, state_length, state_place, fresh, well_formed}
 use Rattle.model.specs.Entry.{entry_of, entries, operation_of, answer_bytes}
 use Rattle.model.specs.Checks.{time_fits}
 use Rattle.model.specs.Step.{no_answer}
-use Rattle.model.specs.Calls.{Returned, number, is_worked, check_site, fresh_state}
-use Rattle.model.specs.Lists.{Run, run_on, state_after, returns, Worked, answers_in, worked_in, event_in, refusal_in, credential_in, History, begun, ended, worked, first_of}
+use Rattle.model.specs.Calls.{Returned, number, is_worked, check_site, fresh_state, check_state}
+use Rattle.model.specs.Lists.{Run, run_on, state_after, results, returns, Worked, answers_in, worked_in, event_in, refusal_in, credential_in, History, begun, ended, worked, first_of}
 use Rattle.model.specs.Tally.{standing, tally_of, count_of}
 use Rattle.model.specs.Part.{Part, SelfContained, part_records, part_entries, part_answers, part_state, others_left_out}
 use Rattle.model.specs.Earned.{Earned}
@@ -20,6 +20,7 @@ use Rattle.model.specs.Shifts.{is_shift, until_midnight, since_midnight, Halved,
 use Rattle.model.specs.DayPasses.{is_grant_of, times_granted, dates_granted, days_in_site, state_left, last_of, days_taken, never_fall, different}
 use Rattle.model.specs.WrongTries.{tried_of, most_tries, tries_in, tries_since}
 use Rattle.model.specs.InPlace.{part_of, Reads}
+use Rattle.model.specs.Longer.{long_well_formed, long_fresh, check_long_state, long_results, shorter, longer, with_shorter, shorten_state, lengthen_state}
 use Rattle.model.specs.declared.Refusal.TheVariants.{SiteLength, StateForm}
 use Rattle.model.specs.declared.Operation.TheVariants.{Factor}
 
@@ -56,10 +57,12 @@ WellFormed =
 -- "what is turned back changes nothing": a call that is turned back leaves every buffer as it was.
 unfoldable pub TurnedBack : Type 0
 TurnedBack =
-    (site state : List ℕ) (r : Run) →
+    (site state long : List ℕ) (r : Run) →
     (is_worked (fresh_state site state).returned ≡ false → (fresh_state site state).state ≡ state)
     × (is_worked (run_on site state r).returned ≡ false →
     ((run_on site state r).state ≡ state) × ((run_on site state r).answers ≡ r.answers))
+    × (is_worked (shorten_state site long state).returned ≡ false → (shorten_state site long state).state ≡ state)
+    × (is_worked (lengthen_state site state long).returned ≡ false → (lengthen_state site state long).state ≡ long)
 
 -- "a bad entry gets its refusal in its own answer and changes no state": the state that the next entry finds is the state that the
 -- refused entry found, and "a refusing answer is zero but for byte 3 and credential NONE".
@@ -159,3 +162,33 @@ ReadInPlace =
     (A : Type 0) (size at width : ℕ) (read value : List ℕ → A) → Reads size at width read value →
     (i : ℕ) (bytes : List ℕ) → i < length bytes / size →
     read (part_of size i bytes) ≡ value (take width (drop (size * i + at) bytes))
+
+-- Document 02, job 8: "From every well-formed longer state, run as until now, and from the shorter one of the same kept records, each journal gets the same
+-- answers and leaves each kept record the same bytes; this is shown for all site mixes together." Of every list of runs: each returns the same number.
+unfoldable pub HalfState : Type 0
+HalfState =
+    (site long : List ℕ) (rs : List Run) → length long ≡ length site → long_well_formed site long ≡ true →
+    results site (shorter site long) rs ≡ map (with_shorter site) (long_results site long rs)
+
+-- "the shorter one of the same kept records" is a well-formed state, and has its longer one back.
+unfoldable pub ShorterWell : Type 0
+ShorterWell =
+    (site long : List ℕ) → check_long_state site long ≡ Ok tt →
+    (check_state site (shorter site long) ≡ Ok tt) × (longer site (shorter site long) ≡ long)
+
+-- And every well-formed state is the shorter one of a well-formed longer state.
+unfoldable pub LongerWell : Type 0
+LongerWell =
+    (site state : List ℕ) → check_state site state ≡ Ok tt →
+    (check_long_state site (longer site state) ≡ Ok tt) × (shorter site (longer site state) ≡ state)
+
+-- Their fresh states are each other's.
+unfoldable pub FreshHalf : Type 0
+FreshHalf = (site : List ℕ) → (shorter site (long_fresh site) ≡ fresh site) × (longer site (fresh site) ≡ long_fresh site)
+
+-- "State shall hold records for zones, points and credentials alone, in site sequence": the state record of the i-th site record, if it has one, is the one
+-- at its place in the state.
+unfoldable pub StateInPlace : Type 0
+StateInPlace =
+    (site state : List ℕ) (i : ℕ) → length state ≡ state_length site → i < length (records site) → kept (get_or (records site) i []) ≡ true →
+    get_or (panel site state) i ([], []) ≡ (get_or (records site) i [], part_of n.record_size (state_place i (records site)) state)

@@ -17,4 +17,5 @@ pub mod Shifts
 pub mod DayPasses
 pub mod WrongTries
 pub mod InPlace
+pub mod Longer
 pub mod Demands

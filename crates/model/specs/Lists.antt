@@ -22,6 +22,11 @@ unfoldable pub state_after : List ℕ → List ℕ → List Run → List ℕ
 state_after site state [] = state
 state_after site state (r ∷ rs) = state_after site (run_on site state r).state rs
 
+-- What each run of a list gives: what it returns, and the state and the answers that it leaves.
+unfoldable pub results : List ℕ → List ℕ → List Run → List RunResult
+results site state [] = []
+results site state (r ∷ rs) = run_on site state r ∷ results site (run_on site state r).state rs
+
 -- What each run of a list returns.
 unfoldable pub returns : List ℕ → List ℕ → List Run → List Returned
 returns site state [] = []

@@ -4,6 +4,7 @@ use Rattle.std.specs.Prelude.{ℕ, ◌+◌, ◌*◌, ◌/◌, ◌%◌, ltb, leng
 use mathlib.Core.List.{List, [], ◌∷◌, ◌++◌, map, flatten}
 use Rattle.model.specs.Words.{zeros}
 use Rattle.model.specs.Numbers.{entry_size, answer_size}
+use Rattle.model.specs.State.{state_length}
 use Rattle.model.specs.Calls.{number, is_worked, fresh_state, RunResult, run_journal}
 use Rattle.model.specs.Lists.{answers_in}
 
@@ -43,7 +44,7 @@ decimal_line n =
 -- A journal from fresh, with room for an answer to each whole entry.
 unfoldable pub from_fresh : List ℕ → List ℕ → RunResult
 from_fresh site journal =
-    run_journal site (fresh_state site (zeros (length site))).state journal (zeros (length journal / entry_size * answer_size))
+    run_journal site (fresh_state site (zeros (state_length site))).state journal (zeros (length journal / entry_size * answer_size))
 
 -- What the printing program writes of a site and a journal.
 unfoldable pub print_journal : List ℕ → List ℕ → List ℕ

@@ -1,8 +1,9 @@
--- "State records, one of 32 bytes per site record": their fields, the panel that site and state make, fresh, well formed.
-use Rattle.std.specs.Prelude.{ℕ, zero, suc, ◌/◌, Bool, false, not, ◌&&◌, ◌||◌, ltb, leb, eqb, length, take, drop, if◌then◌else◌, Option, Some, None}
+-- "State records, one of 32 bytes per site record"; document 02, job 8: "State shall hold records for zones, points and credentials alone, in site
+-- sequence." Their fields, the panel that site and state make, fresh, well formed.
+use Rattle.std.specs.Prelude.{ℕ, ◌*◌, Bool, true, false, not, ◌&&◌, ◌||◌, ltb, leb, eqb, length, take, drop, if◌then◌else◌, Option, Some, None}
 use mathlib.Core.List.{List, [], ◌∷◌, ◌++◌, map, flatten}
 use Rattle.octets.specs.Octets.{field, digits}
-use Rattle.model.specs.Words.{all, zeros, bit_of}
+use Rattle.model.specs.Words.{keep, all, zeros, bit_of}
 use Rattle.model.specs.Numbers.{NONE, NEVER, record_size, access_zone, access_point, access_credential, largest_disable}
 use Rattle.model.specs.Site.{zone_id, point_id, credential_id, record_kind, reference, point_of, credential_of, disable_given, uses_given, days_given, is_at, records}
 use Rattle.model.specs.Accept.{clear, none_or_exists}
@@ -79,15 +80,39 @@ Pair = List ℕ × List ℕ
 abbrev pub Panel : Type 0
 Panel = List Pair
 
--- The first n records of site and state, side by side.
-unfoldable pub paired : ℕ → List ℕ → List ℕ → Panel
-paired zero site state = []
-paired (suc n) site state =
-    (take record_size site, take record_size state) ∷ paired n (drop record_size site) (drop record_size state)
+-- The kinds that have state: "zones, points and credentials alone".
+abbrev pub kept_kind : Option RecordKind → Bool
+kept_kind (Some OfZone) = true
+kept_kind (Some OfPoint) = true
+kept_kind (Some OfRule) = false
+kept_kind (Some OfCredential) = true
+kept_kind (Some OfFactor) = false
+kept_kind None = false
 
--- "one of 32 bytes per site record".
+-- A site record that has a state record.
+unfoldable pub kept : List ℕ → Bool
+kept s = kept_kind (record_kind s)
+
+-- The bytes of state that a site record has.
+unfoldable pub state_size : List ℕ → ℕ
+state_size s = if kept s then record_size else 0
+
+-- Site records, each with its bytes of state, which stand "in site sequence"; one that has none with the empty list.
+unfoldable pub paired : (List ℕ → ℕ) → List (List ℕ) → List ℕ → Panel
+paired size [] state = []
+paired size (s ∷ ss) state = (s, take (size s) state) ∷ paired size ss (drop (size s) state)
+
+-- All records of a site, with their state records.
 unfoldable pub panel : List ℕ → List ℕ → Panel
-panel site state = paired (length site / record_size) site state
+panel site state = paired state_size (records site) state
+
+-- "32 times their number": the length of a site's state.
+unfoldable pub state_length : List ℕ → ℕ
+state_length site = record_size * length (keep kept (records site))
+
+-- The place of the i-th record's state record: as many stand before it as records before the i-th have one.
+unfoldable pub state_place : ℕ → List (List ℕ) → ℕ
+state_place i ss = length (keep kept (take i ss))
 
 -- The site records of a panel.
 abbrev pub sites : Panel → List (List ℕ)
@@ -126,7 +151,7 @@ store k i b (x ∷ xs) = if is_at k i x.0 then (x.0, b) ∷ xs else x ∷ store 
 unfoldable pub write : ℕ → ℕ → List ℕ → Panel → Panel
 write k i b ps = if eqb i NONE then ps else store k i b ps
 
--- ── "Fresh: uses, days, disable from the site; references NONE; last use and entered never; else zero." "Rule, factor: zero."
+-- ── "Fresh: uses, days, disable from the site; references NONE; last use and entered never; else zero."
 
 -- A point: "references NONE .. else zero".
 unfoldable pub fresh_point : PointState
@@ -162,14 +187,14 @@ fresh_with uses days disable =
 unfoldable pub fresh_credential : List ℕ → CredentialState
 fresh_credential s = fresh_with (uses_given s) (days_given s) (disable_given s)
 
--- The fresh record of a site record; "Rule, factor: zero", and so is a zone's.
+-- The fresh record of a site record: a zone's is zero, and a rule or a factor has none.
 abbrev pub fresh_record_as : Option RecordKind → List ℕ → List ℕ
 fresh_record_as (Some OfZone) s = zeros record_size
 fresh_record_as (Some OfPoint) s = point_bytes fresh_point
-fresh_record_as (Some OfRule) s = zeros record_size
+fresh_record_as (Some OfRule) s = []
 fresh_record_as (Some OfCredential) s = credential_bytes (fresh_credential s)
-fresh_record_as (Some OfFactor) s = zeros record_size
-fresh_record_as None s = zeros record_size
+fresh_record_as (Some OfFactor) s = []
+fresh_record_as None s = []
 
 -- By its kind.
 unfoldable pub fresh_record : List ℕ → List ℕ
@@ -206,14 +231,14 @@ credential_well ss s t =
     && none_or_exists ss access_point (credential_state_of t).last_point.0
     && below_most (credential_state_of t).wrong_tries (credential_of s).most_wrong_tries
 
--- A state record, beside its site record, in a site of the records ss.
+-- A state record, beside its site record, in a site of the records ss; a rule or a factor has none.
 abbrev pub record_well_as : Option RecordKind → List (List ℕ) → Pair → Bool
 record_well_as (Some OfZone) ss x = zone_well x.1
 record_well_as (Some OfPoint) ss x = point_well ss x.0 x.1
-record_well_as (Some OfRule) ss x = clear 0 record_size x.1
+record_well_as (Some OfRule) ss x = true
 record_well_as (Some OfCredential) ss x = credential_well ss x.0 x.1
-record_well_as (Some OfFactor) ss x = clear 0 record_size x.1
-record_well_as None ss x = clear 0 record_size x.1
+record_well_as (Some OfFactor) ss x = true
+record_well_as None ss x = true
 
 -- By the kind of its site record.
 unfoldable pub record_well : List (List ℕ) → Pair → Bool
