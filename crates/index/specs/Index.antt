@@ -1,12 +1,14 @@
--- The index of a site's records: the bucket of a record, the next record of a bucket, and what the numbers of an index are.
+-- The index of a site's records: the bucket of a record, the next record of a bucket, how many records have state, and what the numbers of an index are.
 use Rattle.std.specs.Prelude.{ℕ, suc, ◌+◌, ◌*◌, ◌/◌, ◌%◌, ◌^◌, ◌≤◌, ◌<◌, ◌≡◌, List, [], ◌∷◌, Bool, ◌&&◌, eqb, length, drop, get_or, if◌then◌else◌}
 use Rattle.std.specs.Int.Bits.{bit_or}
 use Rattle.octets.specs.Octets.{field}
+use Rattle.model.specs.Words.{keep}
 use Rattle.model.specs.Numbers.{access_rule, authentication_factor, role_identifying}
 use Rattle.model.specs.Site.{kind, instance, everywhere, location_kind, location, role, format, records}
+use Rattle.model.specs.State.{kept}
 
--- The most records of a site; the buckets; classes of kinds; the numbers of an index: a link for each record, then a head for each bucket, and a head
--- and a last record for each class of kinds.
+-- The most records of a site; the buckets; classes of kinds; the numbers of an index: a link for each record, then a head for each bucket, a head
+-- and a last record for each class of kinds, and a count for each fourth record and for their end.
 abbrev pub most_records : ℕ
 most_records = 2000
 
@@ -17,7 +19,10 @@ abbrev pub kind_classes : ℕ
 kind_classes = 8
 
 abbrev pub index_size : ℕ
-index_size = 3040
+index_size = 3541
+
+abbrev pub count_step : ℕ
+count_step = 4
 
 -- A link or a head is a chain: the number of its first record below the scale, and above it the tags of its rules, a bit each; the tags; classes of
 -- rules, each of a bucket and a tag.
@@ -123,8 +128,15 @@ link i index = get_or index i 0
 abbrev pub after : Bool → ℕ → ℕ → List (List ℕ) → List ℕ → ℕ
 after along k i ss index = if along then record_of (link i index) else next_in kind k (i + 1) ss
 
--- The numbers of an index of the records from the k-th on: the chain of each bucket, the first and the last record of each class of kinds, and what
--- follows each record in its bucket's chain. The number of records ends a chain.
+-- How many records have state from the i-th on, and the number that stands for that from the m-th fourth record on.
+abbrev pub kept_from : ℕ → List (List ℕ) → ℕ
+kept_from i ss = length (keep kept (drop i ss))
+
+abbrev pub count_at : ℕ → List ℕ → ℕ
+count_at m index = get_or index (most_records + buckets + kind_classes + kind_classes + m) 0
+
+-- The numbers of an index of the records from the k-th on: the chain of each bucket, the first and the last record of each class of kinds, what
+-- follows each record in its bucket's chain, and how many have state from each fourth record on, and from the k-th on. The number of records ends a chain.
 pub record IndexedFrom (k : ℕ) (ss : List (List ℕ)) (index : List ℕ) : Type 0 where
   pub size : length index ≡ index_size
   pub few : length ss ≤ most_records
@@ -133,6 +145,8 @@ pub record IndexedFrom (k : ℕ) (ss : List (List ℕ)) (index : List ℕ) : Typ
   pub kinds : (c : ℕ) → c < kind_classes → kind_head c index ≡ next_in kind_class c k ss
   pub lasts : (c : ℕ) → c < kind_classes → kind_head c index < length ss → next_in kind_class c (kind_last c index + 1) ss ≡ length ss
   pub links : (i : ℕ) → k ≤ i → i < length ss → link i index ≡ chain_from (bucket_of (get_or ss i [])) (i + 1) ss
+  pub counts : (m : ℕ) → k ≤ m * count_step → m * count_step ≤ length ss → count_at m index ≡ kept_from (m * count_step) ss
+  pub counted : count_at (k / count_step) index ≡ kept_from k ss
 
 -- The i-th record, where there is one, is of a bucket.
 pub record OfBucket (b i : ℕ) (ss : List (List ℕ)) : Type 0 where

@@ -2,10 +2,12 @@
 ghost use Rattle.std.specs.Prelude.{◌≡◌, ℕ, List, Bool, true, [], ◌+◌, ◌%◌, ◌≤◌, ◌<◌, length, drop, get_or, position};
 ghost use Rattle.model.specs.Site as Site;
 ghost use Rattle.model.specs.Site.{records};
-ghost use Rattle.index.specs.Index.{most_records, kind_classes, kind_class, bucket_of, next_in, ChainFrom, Indexed, OfBucket};
-ghost use Rattle.index.specs.Place.{place_from};
+ghost use Rattle.model.specs.State.{state_length};
+ghost use Rattle.index.specs.Index.{most_records, count_step, kept_from, kind_classes, kind_class, bucket_of, next_in, ChainFrom, Indexed, OfBucket};
+ghost use Rattle.index.specs.Place.{place_from, place_at};
 
-use super::{BUCKETS, Bucket, Chain, KIND_CLASSES, MOST_RECORDS, Words};
+use super::{BUCKETS, Bucket, COUNT_STEP, COUNTS, Chain, KIND_CLASSES, MOST_RECORDS, Place, Words};
+use model::numbers::RECORD_SIZE;
 use records::Record;
 use std::marker::Model;
 
@@ -106,6 +108,34 @@ impl<'s, 'w> IndexedSite<'s, 'w> {
         ensures { ChainFrom (bucket_of (get_or (records self.now) i [])) (i + 1) (records self.now) result.0 }
     {
         super::link_of(self.words, i)
+    }
+
+    // How many records have state from a fourth one on.
+    fn kept_from(&self, from: usize) -> usize
+        requires { (from % count_step ≡ 0) × (from ≤ length (records self.now)) }
+        ensures { result ≡ kept_from from (records self.now) }
+    {
+        usize::from(self.words[COUNTS + from / COUNT_STEP])
+    }
+
+    // How long the state is.
+    pub fn state_length(&self) -> usize
+        ensures { result ≡ state_length self.now }
+    {
+        self.kept_from(0) * RECORD_SIZE
+    }
+
+    // Where the i-th record and its state record stand: at most three records are read.
+    pub fn place(&self, i: usize) -> Place
+        requires { i < length (records self.now) }
+        ensures { result ≡ place_at i (records self.now) }
+    {
+        let from = i / COUNT_STEP * COUNT_STEP;
+        let before = self.kept_from(0) - self.kept_from(from);
+        Place {
+            site: i,
+            state: before + super::kept_count(&self.records()[from..i]),
+        }
     }
 
     // The first record of a kind's class, or the number of records, where it has none. A kind is the byte of a record, as for `object_bucket`.

@@ -1,15 +1,17 @@
 // The records of a site by number, and an index of them that a call keeps on its stack. A record falls into a bucket by what it is looked up by. The
 // index has a link for each record, the next record of its bucket in file order, then a head for each bucket, its first record, and then the first and
-// the last record of each kind. The number of records ends a chain: it bounds the slices too, and fits the word, as an Option would not. Above the record's
+// the last record of each kind. Last it has, for each fourth record, how many from there on have state. The number of records ends a chain: it bounds the slices too, and fits the word, as an Option would not. Above the record's
 // number a link or a head has the tags of the rules from there on in its chain, a bit each, so that a walk for rules ends where none of their tag is left.
 // Nothing else knows where these stand. `as` widens a u32, which has no From to usize, and narrows what is known to fit, where try_from would test it again.
 #![tactic(auto)]
 
 ghost use Rattle.std.specs.Prelude.{◌≡◌, [], ◌+◌, ◌*◌, ◌%◌, ◌≤◌, ◌<◌, eqb, length, get_or, if◌then◌else◌};
 ghost use Rattle.octets.specs.Octets.{field};
+ghost use Rattle.model.specs.Words.{keep};
 ghost use Rattle.model.specs.Numbers.{access_rule};
 ghost use Rattle.model.specs.Site as Site;
 ghost use Rattle.model.specs.Site.{records};
+ghost use Rattle.model.specs.State.{kept};
 ghost use Rattle.index.specs.Index as Index;
 ghost use Rattle.index.specs.Index.{most_records, kind_classes, object_bucket, rule_class, factor_bucket, IndexedFrom};
 ghost use Rattle.index.specs.Slots.{Slotted};
@@ -27,7 +29,8 @@ use model::numbers::{ACCESS_RULE, AUTHENTICATION_FACTOR, LOCATION_EVERYWHERE, RO
 use octets::Number;
 use records::Record;
 use records::site::{
-    format_of, instance_of, is_everywhere, kind_of, location_kind_of, location_of, role_of,
+    format_of, instance_of, is_everywhere, is_kept, kind_of, location_kind_of, location_of,
+    role_of,
 };
 
 // The most records of a site, whose links come first; the buckets, whose heads follow; the classes of kinds, whose heads and
@@ -36,7 +39,12 @@ pub const MOST_RECORDS: usize = 2000;
 
 const KIND_CLASSES: usize = 8;
 
-pub const INDEX_SIZE: usize = 3040;
+// Where the counts stand: they are of each fourth record alone, so that a call keeps below 8 KiB of stack.
+const COUNTS: usize = 3040;
+
+const COUNT_STEP: usize = 4;
+
+pub const INDEX_SIZE: usize = 3541;
 
 // The numbers of an index, as one array: memory is fixed, and the definitions (`head`, `link`, `kind_head`) speak of one list of numbers.
 pub type Words = [u16; INDEX_SIZE];
@@ -57,6 +65,13 @@ const SPREAD_TURN: usize = 204;
 
 // A class is chosen by two bits more than a bucket.
 const CLASS_SCALE: usize = 262144;
+
+// Where a record stands: its number among the records of the site, and that of its state record among those of the state.
+#[derive(Clone, Copy)]
+pub struct Place {
+    pub site: usize,
+    pub state: usize,
+}
 
 // Where a record goes: its bucket, and the bit of its tag, where it is a rule. That it is the slot of a record (`Slotted`) is no part of it: the type would
 // name the record.
@@ -81,6 +96,13 @@ pub fn record_at(site: &[u8], i: usize) -> &Record
     ensures { result.now ≡ get_or (records site.now) i [] }
 {
     octets::group(site, i)
+}
+
+// How many of some records have state.
+pub fn kept_count(records: &[Record]) -> usize
+    ensures { result ≡ length (keep kept records.now) }
+{
+    records.iter().filter(|part| is_kept(*part)).count()
 }
 
 fn mixed(a: u32, b: u32, c: u32) -> usize
@@ -205,7 +227,8 @@ pub fn empty(records: &[Record], words: &mut Words)
     ensures { IndexedFrom (length records.now) records.now words.new }
 {
     let end = records.len() as u16;
-    words[MOST_RECORDS..].fill(end);
+    words[MOST_RECORDS..COUNTS].fill(end);
+    words[COUNTS + records.len() / COUNT_STEP] = 0;
 }
 
 // The last record of a class with the i-th in it: the one that was, or the i-th, where the class was empty.
@@ -230,11 +253,13 @@ fn put(records: &[Record], words: &mut Words, i: usize, slot: Slot)
         records.len() as u16,
         i as u16,
     );
+    let count = words[COUNTS + (i + 1) / COUNT_STEP] + u16::from(is_kept(&records[i]));
     let chain = words[head];
     words[i] = chain;
     words[head] = Chain(chain).before(slot.mark, i as u16).0;
     words[kind_head] = i as u16;
     words[kind_last] = last;
+    words[COUNTS + i / COUNT_STEP] = count;
 }
 
 // The i-th record is put before the later ones of its bucket. Rules are put by themselves, so that no work is left for the mark of the others.

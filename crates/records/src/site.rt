@@ -4,6 +4,7 @@
 ghost use Rattle.std.specs.Prelude.{◌≡◌};
 ghost use Rattle.model.specs.Site as Site;
 ghost use Rattle.model.specs.Site.{zone_of, point_of, credential_of};
+ghost use Rattle.model.specs.State.{kept};
 
 use super::fields::flag_of;
 use super::{FromPart, Part};
@@ -30,6 +31,17 @@ pub fn record_kind_of<P: Part>(part: P) -> Option<RecordKind>
         AUTHENTICATION_FACTOR => Some(RecordKind::OfFactor),
         _ => None,
     }
+}
+
+// Whether it has a state record: a zone, a point or a credential.
+#[tactic(auto, unfolding(model::specs::State::kept))]
+pub fn is_kept<P: Part>(part: P) -> bool
+    ensures { result ≡ kept (P.bytes part) }
+{
+    matches!(
+        record_kind_of(part),
+        Some(RecordKind::OfZone | RecordKind::OfPoint | RecordKind::OfCredential)
+    )
 }
 
 pub fn flags_of<P: Part>(part: P) -> u8

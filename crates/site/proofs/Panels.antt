@@ -9,7 +9,7 @@ use lib.ListN.{get_or, set}
 use Rattle.model.specs.Site.{records, is_at}
 use Rattle.model.specs.State.{Panel, sites, find, store}
 use Rattle.index.specs.Place.{place_from}
-use Rattle.site.specs.Place.{place_of}
+use Rattle.site.specs.Place.{site_place}
 
 -- What a place says of a panel, the first pair of it counted as `from`, when `b` is written.
 unfoldable Held : ℕ → ℕ → List ℕ → ℕ → Panel → Option ℕ → Type 0
@@ -34,28 +34,28 @@ held k i b from (x ∷ xs) = go (is_at k i x.0) refl (held k i b (suc from) xs)
     go false e h = later (place_from (is_at k i) (suc from) (sites xs)) e h
 
 module _ (k i : ℕ) (site : List ℕ) (ps : Panel) (same_site : sites ps ≡ records site) where
-  here : (b : List ℕ) → Held k i b 0 ps (place_of k i site)
-  unfolding place_of
+  here : (b : List ℕ) → Held k i b 0 ps (site_place k i site)
+  unfolding site_place
   here b = rw same_site at (held k i b 0 ps)
 
-  pub find_at : (j : ℕ) → place_of k i site ≡ Some j → find k i ps ≡ get_or ps j ([], [])
+  pub find_at : (j : ℕ) → site_place k i site ≡ Some j → find k i ps ≡ get_or ps j ([], [])
   unfolding Held
   find_at j e =
       let h : Held k i [] 0 ps (Some j) = rw e at (here []) in
       let z : j - 0 ≡ j = omega arith in
       rw z at h.1
 
-  pub store_at : (b : List ℕ) (j : ℕ) → place_of k i site ≡ Some j → store k i b ps ≡ set ps j ((get_or ps j ([], [])).0, b)
+  pub store_at : (b : List ℕ) (j : ℕ) → site_place k i site ≡ Some j → store k i b ps ≡ set ps j ((get_or ps j ([], [])).0, b)
   unfolding Held
   store_at b j e =
       let h : Held k i b 0 ps (Some j) = rw e at (here b) in
       let z : j - 0 ≡ j = omega arith in
       rw z at h.2
 
-  pub find_nowhere : place_of k i site ≡ None → find k i ps ≡ ([], [])
+  pub find_nowhere : site_place k i site ≡ None → find k i ps ≡ ([], [])
   unfolding Held
   find_nowhere e = let h : Held k i [] 0 ps None = rw e at (here []) in h.0
 
-  pub store_nowhere : (b : List ℕ) → place_of k i site ≡ None → store k i b ps ≡ ps
+  pub store_nowhere : (b : List ℕ) → site_place k i site ≡ None → store k i b ps ≡ ps
   unfolding Held
   store_nowhere b e = let h : Held k i b 0 ps None = rw e at (here b) in h.1

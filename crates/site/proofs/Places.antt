@@ -13,7 +13,7 @@ use Rattle.model.specs.Site.{records, is_at, find_in, lookup}
 use Rattle.model.specs.Accept.{exists}
 use Rattle.index.proofs.Building.{length_records}
 use Rattle.index.specs.Place.{place_from}
-use Rattle.site.specs.Place.{place_of}
+use Rattle.site.specs.Place.{site_place}
 use Rattle.site.proofs.Records.{no_bytes}
 
 -- What a place says of the records, the first of them counted as `from`, and a test: the record there is the first that passes, or none does. Every law of
@@ -56,18 +56,18 @@ module _ (q : List ℕ → Bool) (ss : List (List ℕ)) where
   found_nowhere e = let h : First q 0 ss None = rw e at (first q 0 ss) in h.0
 
 -- The place of a record that is found: it is the record there.
-pub place_found : (k i j : ℕ) (site : List ℕ) → place_of k i site ≡ Some j
+pub place_found : (k i j : ℕ) (site : List ℕ) → site_place k i site ≡ Some j
     → (j < length (records site)) × (get_or (records site) j [] ≡ lookup k i site) × (is_at k i (get_or (records site) j []) ≡ true)
-unfolding place_of lookup
+unfolding site_place lookup
 place_found k i j site e = found_at (is_at k i) (records site) j e
 
 -- No place: no record is found.
-pub place_missing : (k i : ℕ) (site : List ℕ) → place_of k i site ≡ None → lookup k i site ≡ []
-unfolding place_of lookup
+pub place_missing : (k i : ℕ) (site : List ℕ) → site_place k i site ≡ None → lookup k i site ≡ []
+unfolding site_place lookup
 place_missing k i site e = found_nowhere (is_at k i) (records site) e
 
 -- It exists where it has a place.
-pub place_exists : (k i j : ℕ) (site : List ℕ) → place_of k i site ≡ Some j → exists (records site) k i ≡ true
+pub place_exists : (k i j : ℕ) (site : List ℕ) → site_place k i site ≡ Some j → exists (records site) k i ≡ true
 unfolding exists lookup records
 place_exists k i j site e =
     let f = place_found k i j site e in
@@ -75,14 +75,14 @@ place_exists k i j site e =
     let l : length (find_in (is_at k i) (records site)) ≡ 32 = rw f.1 at (length_group 32 (length site / 32) j site n (omega arith)) in
     rw (← no_bytes (find_in (is_at k i) (records site)), l)
 
-pub place_exists_not : (k i : ℕ) (site : List ℕ) → place_of k i site ≡ None → exists (records site) k i ≡ false
+pub place_exists_not : (k i : ℕ) (site : List ℕ) → site_place k i site ≡ None → exists (records site) k i ≡ false
 unfolding exists lookup
 place_exists_not k i site e = rw (place_missing k i site e)
 
-pub place_tells : (k i : ℕ) (site : List ℕ) → is_some (place_of k i site) ≡ exists (records site) k i
-place_tells k i site = go (place_of k i site) refl
+pub place_tells : (k i : ℕ) (site : List ℕ) → is_some (site_place k i site) ≡ exists (records site) k i
+place_tells k i site = go (site_place k i site) refl
   where
-    go : (p : Option ℕ) → place_of k i site ≡ p → is_some p ≡ exists (records site) k i
+    go : (p : Option ℕ) → site_place k i site ≡ p → is_some p ≡ exists (records site) k i
     go (Some j) e = sym (place_exists k i j site e)
     go None e = sym (place_exists_not k i site e)
 

@@ -13,7 +13,7 @@ ghost use Rattle.site.specs.Factor.{fits as fits_presented, presented_bucket};
 use super::Presented;
 use super::lookup::{is_at, is_fitting};
 use super::object::{Object, Placed};
-use index::{Bucket, IndexedSite, Keyed, Sought};
+use index::{Bucket, IndexedSite, Keyed, Place, Sought};
 use model::numbers::{AUTHENTICATION_FACTOR, NONE};
 use records::Record;
 
@@ -80,19 +80,21 @@ impl Keyed for Presented {
     }
 }
 
-// The place of the record of an object.
-#[tactic(auto, unfolding(crate::specs::Place::place_of))]
-pub fn place_of<O: Placed>(site: &IndexedSite, object: O) -> Option<usize>
+// Where the record of an object stands.
+#[tactic(auto, using(crate::proofs::Places::found_within), unfolding(crate::specs::Place::site_place, crate::specs::Place::place_of))]
+pub fn place_of<O: Placed>(site: &IndexedSite, object: O) -> Option<Place>
     ensures { result ≡ place_of O.KIND (O.instance object) site.now }
 {
-    site.first(RecordOf(object))
+    let i = site.first(RecordOf(object))?;
+    Some(site.place(i))
 }
 
-#[tactic(auto, using(crate::proofs::Places::place_tells))]
+// Whether it is there; where it stands is not asked.
+#[tactic(auto, using(crate::proofs::Places::place_tells), unfolding(crate::specs::Place::site_place))]
 pub fn exists<O: Placed>(site: &IndexedSite, object: O) -> bool
     ensures { result ≡ Accept.exists (records site.now) O.KIND (O.instance object) }
 {
-    place_of(site, object).is_some()
+    site.first(RecordOf(object)).is_some()
 }
 
 // Whether a reference is NONE or names an object that exists: NONE is not looked up.

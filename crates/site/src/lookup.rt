@@ -3,18 +3,20 @@ ghost use Rattle.std.specs.Prelude.{◌≡◌, ◌+◌, ◌≤◌, [], length, t
 ghost use Rattle.octets.specs.Octets.{same};
 ghost use Rattle.model.specs.Site as Site;
 ghost use Rattle.model.specs.Site.{records, is_at, find_in, lookup};
+ghost use Rattle.model.specs.State.{state_length};
 ghost use Rattle.model.specs.Checks.{presents, identifying, confirming};
 ghost use Rattle.site.specs.Place.{place_of};
 ghost use Rattle.site.specs.Factor.{fits};
 
 use super::Presented;
 use super::object::Object;
+use index::Place;
 use model::CredentialId;
 use model::layout::FACTOR_VALUE;
-use model::numbers::{AUTHENTICATION_FACTOR, ROLE_CONFIRMING, ROLE_IDENTIFYING};
+use model::numbers::{AUTHENTICATION_FACTOR, RECORD_SIZE, ROLE_CONFIRMING, ROLE_IDENTIFYING};
 use octets::Number;
 use records::Record;
-use records::site::{format_of, instance_of, kind_of, role_of};
+use records::site::{format_of, instance_of, is_kept, kind_of, role_of};
 
 // Whether a record is that of an object; the lookups by the index share it.
 pub(crate) fn is_at<O: Object>(part: &Record, object: O) -> bool
@@ -23,13 +25,26 @@ pub(crate) fn is_at<O: Object>(part: &Record, object: O) -> bool
     kind_of(part) == O::KIND && instance_of(part) == object.instance()
 }
 
-// The place of the first record of an object.
-pub fn place_of<O: Object>(site: &[u8], object: O) -> Option<usize>
+// Where the first record of an object stands, and its state record: both in one pass over the records.
+pub fn place_of<O: Object>(site: &[u8], object: O) -> Option<Place>
     ensures { result ≡ place_of O.KIND (O.instance object) site.now }
 {
-    index::records(site)
-        .iter()
-        .position(|part| is_at(part, object))
+    let mut state = 0;
+    for (i, part) in index::records(site).iter().enumerate() {
+        if is_at(part, object) {
+            return Some(Place { site: i, state });
+        }
+        state += usize::from(is_kept(part));
+    }
+    None
+}
+
+// How long the state of a site is.
+#[tactic(auto, unfolding(model::specs::State::state_length))]
+pub fn state_length(site: &[u8]) -> usize
+    ensures { result ≡ state_length site.now }
+{
+    index::kept_count(index::records(site)) * RECORD_SIZE
 }
 
 // A record that is found, else the empty part, as document 01 asks of a lookup.
