@@ -7,7 +7,8 @@ use Rattle.model.specs.Entry.{operation_of, in_form}
 use Rattle.model.specs.Checks.{verdict, event_of}
 use Rattle.model.specs.Effects.{outcome_of}
 use Rattle.model.specs.Step.{no_answer, unchanged, refused_number, refuse, count_outcome, adjust_outcome, disable_outcome, service_outcome}
-use Rattle.journal.specs.Places.{part_at, object_place}
+use Rattle.index.specs.declared.Place.{Place}
+use Rattle.journal.specs.Places.{site_part, state_part, object_place}
 use Rattle.journal.specs.Gather.{gathered, count_to}
 use Rattle.model.specs.declared.Situation.{Situation}
 use Rattle.model.specs.declared.Verdict.{Verdict}
@@ -30,10 +31,10 @@ unfoldable pub read_outcome : Situation → Verdict → Entry → Outcome
 read_outcome v rules e = outcome_of v e (event_of v rules e)
 
 -- Operations 2 to 5 write the record of their object alone.
-abbrev pub object_places : Option ℕ → Places
+abbrev pub object_places : Option Place → Places
 object_places place = record { point = place; credential = place; zone_to = place; zone_from = None }
 
-abbrev pub at_object : Outcome → Option ℕ → Decided
+abbrev pub at_object : Outcome → Option Place → Decided
 at_object o place = record { outcome = o; places = object_places place }
 
 -- An entry that is refused writes nothing.
@@ -46,7 +47,7 @@ or_refused (Ok d) = d
 or_refused (Err r) = refused_as r
 
 -- A factor read at the point that stands at a place, in service.
-unfoldable pub served_at : Option ℕ → Entry → List ℕ → List ℕ → Decided
+unfoldable pub served_at : Option Place → Entry → List ℕ → List ℕ → Decided
 served_at place e site state =
     record {
       outcome =
@@ -55,25 +56,25 @@ served_at place e site state =
     }
 
 -- And in service or not: out of service the tag as held and Zone_To's count are all that is asked.
-unfoldable pub read_at : Option ℕ → Entry → List ℕ → List ℕ → Decided
+unfoldable pub read_at : Option Place → Entry → List ℕ → List ℕ → Decided
 read_at place e site state =
-    if (point_of (part_at place site)).out_of_service
-    then at_object (unchanged (no_answer n.not_refused (point_state_of (part_at place state)).tag (count_to place site state))) None
+    if (point_of (site_part place site)).out_of_service
+    then at_object (unchanged (no_answer n.not_refused (point_state_of (state_part place state)).tag (count_to place site state))) None
     else served_at place e site state
 
 -- The operation at its object, which stands at a place.
-abbrev pub worked_at : Option Operation → Option ℕ → Entry → List ℕ → List ℕ → Decided
+abbrev pub worked_at : Option Operation → Option Place → Entry → List ℕ → List ℕ → Decided
 worked_at (Some Factor) place e site state = read_at place e site state
 worked_at (Some SetCount) place e site state = at_object (count_outcome e e.amount) place
-worked_at (Some AdjustCount) place e site state = at_object (adjust_outcome e (count (part_at place state))) place
-worked_at (Some SetDisable) place e site state = at_object (disable_outcome e (credential_state_of (part_at place state))) place
+worked_at (Some AdjustCount) place e site state = at_object (adjust_outcome e (count (state_part place state))) place
+worked_at (Some SetDisable) place e site state = at_object (disable_outcome e (credential_state_of (state_part place state))) place
 worked_at (Some SetService) place e site state =
-    at_object (service_outcome e (point_state_of (part_at place state)) (count_to place site state)) place
+    at_object (service_outcome e (point_state_of (state_part place state)) (count_to place site state)) place
 worked_at None place e site state = at_object (refuse n.refused_form) place
 
 -- The same, or refusal 8 where there is no object.
-abbrev pub found_at : Option Operation → Option ℕ → Entry → List ℕ → List ℕ → Decided
-found_at o (Some j) e site state = worked_at o (Some j) e site state
+abbrev pub found_at : Option Operation → Option Place → Entry → List ℕ → List ℕ → Decided
+found_at o (Some p) e site state = worked_at o (Some p) e site state
 found_at o None e site state = refused_as NoObject
 
 -- An entry: refusal 7 where it has not the form, then its object.

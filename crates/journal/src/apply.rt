@@ -3,24 +3,25 @@ ghost use Rattle.std.specs.Prelude.{◌≡◌};
 ghost use Rattle.journal.specs.Places.{write_place, written, applied};
 
 use super::Places;
+use index::Place;
 use model::numbers::{NONE, RECORD_SIZE};
 use model::{Outcome, Write};
 use records::ToRecord;
 use site::object::Object;
 
-// Where a write is made: at its place, if there is one among the n records of the state.
+// Where a write is made: at its place in the state, if that is one of its n records.
 #[tactic(auto, unfolding(crate::specs::Places::write_place))]
-fn write_place(instance: u32, place: Option<usize>, n: usize) -> Option<usize>
+fn write_place(instance: u32, place: Option<Place>, n: usize) -> Option<usize>
     ensures { result ≡ write_place instance place n }
 {
     if instance == NONE {
         return None;
     }
-    place.filter(|i| *i < n)
+    place.map(|p| p.state).filter(|i| *i < n)
 }
 
 #[tactic(auto, using(crate::proofs::At::place_below_law))]
-fn write<I: Object, S: ToRecord>(state: &mut [u8], made: Option<Write<I, S>>, place: Option<usize>)
+fn write<I: Object, S: ToRecord>(state: &mut [u8], made: Option<Write<I, S>>, place: Option<Place>)
     ensures { state.new ≡ written I.instance S.record_of made place state.old }
 {
     let Some(w) = made else {

@@ -5,12 +5,12 @@ ghost use Rattle.model.specs.State.{count};
 ghost use Rattle.model.specs.Checks.{factor_for, credential_read};
 ghost use Rattle.model.specs.Step.{disable_of};
 ghost use Rattle.site.specs.Factor.{fits};
-ghost use Rattle.journal.specs.Places.{part_at, seek_place};
+ghost use Rattle.journal.specs.Places.{site_part, state_part, seek_place};
 ghost use Rattle.journal.specs.Gather.{to_at, gathered};
 
-use super::object::{part_at, read_at};
+use super::object::{read_site, read_state, site_part, state_part};
 use super::{Gathered, Places};
-use index::IndexedSite;
+use index::{IndexedSite, Place};
 use model::numbers::NONE;
 use model::{CredentialId, Entry, Point, PointState, Situation};
 use records::Record;
@@ -19,9 +19,9 @@ use records::state::count_of;
 use site::object::Placed;
 use site::{Presented, indexed};
 
-// The place of what a reference names: NONE names nothing.
+// Where what a reference names stands: NONE names nothing.
 #[tactic(auto, unfolding(crate::specs::Places::seek_place))]
-fn seek<O: Placed>(site: &IndexedSite, object: O) -> Option<usize>
+fn seek<O: Placed>(site: &IndexedSite, object: O) -> Option<Place>
     ensures { result ≡ seek_place O.KIND (O.instance object) site.now }
 {
     if object.instance() == NONE {
@@ -31,18 +31,18 @@ fn seek<O: Placed>(site: &IndexedSite, object: O) -> Option<usize>
 }
 
 // A zone's count, or 0 where there is no zone.
-pub(crate) fn count_at(state: &[u8], place: Option<usize>) -> u32
-    ensures { result ≡ count (part_at place state.now) }
+pub(crate) fn count_at(state: &[u8], place: Option<Place>) -> u32
+    ensures { result ≡ count (state_part place state.now) }
 {
-    count_of(part_at(state, place))
+    count_of(state_part(state, place))
 }
 
-// The place of the Zone_To of the point that stands at a place.
+// Where the Zone_To stands of the point that stands at a place.
 #[tactic(auto, unfolding(crate::specs::Gather::to_at))]
-pub fn zone_to_at(site: &IndexedSite, place: Option<usize>) -> Option<usize>
+pub fn zone_to_at(site: &IndexedSite, place: Option<Place>) -> Option<Place>
     ensures { result ≡ to_at place site.now }
 {
-    seek(site, zone_to_of(part_at(site.bytes(), place)))
+    seek(site, zone_to_of(site_part(site, place)))
 }
 
 // What is presented at a point that waits for a credential or for nobody.
@@ -86,11 +86,11 @@ fn disable_of(factor: Option<&Record>) -> Option<u8>
 
 // The situation of a factor read at the point that stands at a place.
 #[tactic(auto, unfolding(crate::specs::Gather::gathered, crate::specs::Gather::waiting_at, crate::specs::Gather::factor_at, crate::specs::Gather::number_at, crate::specs::Gather::to_at, crate::specs::Gather::from_at, crate::specs::Gather::held_at))]
-pub fn gather(site: &IndexedSite, state: &[u8], e: Entry, place: Option<usize>) -> Gathered
+pub fn gather(site: &IndexedSite, state: &[u8], e: Entry, place: Option<Place>) -> Gathered
     ensures { result ≡ gathered place e site.now state.now }
 {
-    let point: Point = read_at(site.bytes(), place);
-    let point_state: PointState = read_at(state, place);
+    let point: Point = read_site(site, place);
+    let point_state: PointState = read_state(state, place);
     let waiting = point_state.waiting_credential;
     let factor = factor_for(site, waiting, e);
     let number = credential_read(waiting, factor);
@@ -100,14 +100,14 @@ pub fn gather(site: &IndexedSite, state: &[u8], e: Entry, place: Option<usize>) 
     let situation = Situation {
         point,
         point_state,
-        zone_to: read_at(site.bytes(), zone_to),
+        zone_to: read_site(site, zone_to),
         count_to: count_at(state, zone_to),
-        zone_from: read_at(site.bytes(), zone_from),
+        zone_from: read_site(site, zone_from),
         count_from: count_at(state, zone_from),
         factor_disable: disable_of(factor),
         number,
-        credential: read_at(site.bytes(), credential),
-        credential_state: read_at(state, credential),
+        credential: read_site(site, credential),
+        credential_state: read_state(state, credential),
     };
     let places = Places {
         point: place,

@@ -10,15 +10,16 @@ pub mod apply; // apply.rt: the state records that an outcome writes
 pub mod step; // step.rt: one entry
 pub mod run; // run.rt: all entries of a journal
 
+use index::Place;
 use model::{Outcome, Situation};
 
 // Where the records stand that an entry may write, beside the situation, which the definitions have without places.
 #[derive(Clone, Copy)]
 pub struct Places {
-    pub point: Option<usize>,
-    pub credential: Option<usize>,
-    pub zone_to: Option<usize>,
-    pub zone_from: Option<usize>,
+    pub point: Option<Place>,
+    pub credential: Option<Place>,
+    pub zone_to: Option<Place>,
+    pub zone_from: Option<Place>,
 }
 
 // What a factor read looks at, and where its records stand.

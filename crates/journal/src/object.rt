@@ -1,32 +1,48 @@
 // Where the object of an entry stands, and the records there.
 ghost use Rattle.std.specs.Prelude.{◌≡◌, [], unwrap_or, option_copied};
-ghost use Rattle.journal.specs.Places.{part_at, object_place};
+ghost use Rattle.journal.specs.Places.{site_part, state_part, object_place};
 
-use index::IndexedSite;
+use index::{IndexedSite, Place};
 use model::{CredentialId, Operation, PointId, ZoneId};
 use records::{FromPart, Record};
 use site::indexed;
 
-// The record at a place, where there is one.
-pub fn part_at(bytes: &[u8], place: Option<usize>) -> Option<&Record>
-    ensures { unwrap_or (option_copied result) [] ≡ part_at place bytes.now }
+// The site record at a place, where there is one.
+#[tactic(auto, unfolding(model::specs::InPlace::part_of))]
+pub fn site_part<'s>(site: &IndexedSite<'s, '_>, place: Option<Place>) -> Option<&'s Record>
+    ensures { unwrap_or (option_copied result) [] ≡ site_part place site.now }
 {
-    octets::groups(bytes).get(place?)
+    octets::groups(site.bytes()).get(place?.site)
 }
 
-// What is read of the record at a place, or of none.
-pub(crate) fn read_at<R: FromPart>(bytes: &[u8], place: Option<usize>) -> R
-    ensures { result ≡ R.of_part (part_at place bytes.now) }
+// The state record there.
+#[tactic(auto, unfolding(model::specs::InPlace::part_of))]
+pub fn state_part(state: &[u8], place: Option<Place>) -> Option<&Record>
+    ensures { unwrap_or (option_copied result) [] ≡ state_part place state.now }
 {
-    R::from_part(part_at(bytes, place))
+    octets::groups(state).get(place?.state)
 }
 
-// The place of the object that an instance names under an operation; an unknown one names none.
+// What is read of the site record at a place, or of none.
+pub(crate) fn read_site<R: FromPart>(site: &IndexedSite, place: Option<Place>) -> R
+    ensures { result ≡ R.of_part (site_part place site.now) }
+{
+    R::from_part(site_part(site, place))
+}
+
+// What is read of the state record there.
+pub(crate) fn read_state<R: FromPart>(state: &[u8], place: Option<Place>) -> R
+    ensures { result ≡ R.of_part (state_part place state.now) }
+{
+    R::from_part(state_part(state, place))
+}
+
+// Where the object stands that an instance names under an operation; an unknown one names none.
 pub fn object_place(
     site: &IndexedSite,
     operation: Option<Operation>,
     instance: u32,
-) -> Option<usize>
+) -> Option<Place>
     ensures { result ≡ object_place operation instance site.now }
 {
     match operation? {

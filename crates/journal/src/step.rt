@@ -1,26 +1,26 @@
 // One entry: its form, its object, what it looks at, its outcome; then its records are written.
-ghost use Rattle.std.specs.Prelude.{◌≡◌, ◌%◌, Option, Some, length};
+ghost use Rattle.std.specs.Prelude.{◌≡◌, Option, Some, length};
 ghost use Rattle.model.specs.Site.{point_of};
-ghost use Rattle.model.specs.State.{panel, state_of, point_state_of};
+ghost use Rattle.model.specs.State.{panel, state_length, state_of, point_state_of};
 ghost use Rattle.model.specs.Step.{service_outcome, entry_outcome, apply};
-ghost use Rattle.journal.specs.Places.{part_at};
+ghost use Rattle.journal.specs.Places.{site_part, state_part};
 ghost use Rattle.journal.specs.Gather.{count_to};
 ghost use Rattle.journal.specs.Decide.{at_object, refused_as, or_refused, served_at, read_at, worked_at, decided_on};
 
 use super::apply::apply_outcome;
 use super::decide::decide;
 use super::gather::{count_at, gather, zone_to_at};
-use super::object::{object_place, part_at, read_at};
+use super::object::{object_place, read_state, site_part, state_part};
 use super::{Decided, Places};
 use effects::operations;
 use entries::form;
-use index::IndexedSite;
+use index::{IndexedSite, Place};
 use model::{Answer, Entry, EntryRefusal, Operation, Outcome};
 use records::site::is_out_of_service;
 use records::state::tag_of;
 
 // An outcome that writes no record but that of the object.
-fn at_object(outcome: Outcome, place: Option<usize>) -> Decided
+fn at_object(outcome: Outcome, place: Option<Place>) -> Decided
     ensures { result ≡ at_object outcome place }
 {
     Decided {
@@ -35,22 +35,22 @@ fn at_object(outcome: Outcome, place: Option<usize>) -> Decided
 }
 
 // Whether the point that stands at a place is out of service.
-fn is_out_of_service_at(site: &IndexedSite, place: Option<usize>) -> bool
-    ensures { result ≡ (point_of (part_at place site.now)).out_of_service }
+fn is_out_of_service_at(site: &IndexedSite, place: Option<Place>) -> bool
+    ensures { result ≡ (point_of (site_part place site.now)).out_of_service }
 {
-    is_out_of_service(part_at(site.bytes(), place))
+    is_out_of_service(site_part(site, place))
 }
 
 // The tag that it holds.
-fn tag_at(state: &[u8], place: Option<usize>) -> u32
-    ensures { result ≡ (point_state_of (part_at place state.now)).tag }
+fn tag_at(state: &[u8], place: Option<Place>) -> u32
+    ensures { result ≡ (point_state_of (state_part place state.now)).tag }
 {
-    tag_of(part_at(state, place))
+    tag_of(state_part(state, place))
 }
 
 // The count of its Zone_To.
 #[tactic(auto, unfolding(crate::specs::Gather::count_to))]
-fn count_to_at(site: &IndexedSite, state: &[u8], place: Option<usize>) -> u32
+fn count_to_at(site: &IndexedSite, state: &[u8], place: Option<Place>) -> u32
     ensures { result ≡ count_to place site.now state.now }
 {
     count_at(state, zone_to_at(site, place))
@@ -58,7 +58,7 @@ fn count_to_at(site: &IndexedSite, state: &[u8], place: Option<usize>) -> u32
 
 // A factor read at the point that stands at a place, in service.
 #[tactic(auto, unfolding(crate::specs::Decide::served_at))]
-fn served_at(site: &IndexedSite, state: &[u8], e: Entry, place: Option<usize>) -> Decided
+fn served_at(site: &IndexedSite, state: &[u8], e: Entry, place: Option<Place>) -> Decided
     ensures { result ≡ served_at place e site.now state.now }
 {
     let g = gather(site, state, e, place);
@@ -70,7 +70,7 @@ fn served_at(site: &IndexedSite, state: &[u8], e: Entry, place: Option<usize>) -
 
 // A factor read at the point that stands at a place. Out of service, nothing else is looked up or read.
 #[tactic(auto, unfolding(crate::specs::Decide::read_at))]
-fn factor_read_at(site: &IndexedSite, state: &[u8], e: Entry, place: Option<usize>) -> Decided
+fn factor_read_at(site: &IndexedSite, state: &[u8], e: Entry, place: Option<Place>) -> Decided
     ensures { result ≡ read_at place e site.now state.now }
 {
     if is_out_of_service_at(site, place) {
@@ -82,10 +82,10 @@ fn factor_read_at(site: &IndexedSite, state: &[u8], e: Entry, place: Option<usiz
 }
 
 // Operation 5 at the point that stands at a place.
-fn service_at(site: &IndexedSite, state: &[u8], e: Entry, place: Option<usize>) -> Outcome
-    ensures { result ≡ service_outcome e (point_state_of (part_at place state.now)) (count_to place site.now state.now) }
+fn service_at(site: &IndexedSite, state: &[u8], e: Entry, place: Option<Place>) -> Outcome
+    ensures { result ≡ service_outcome e (point_state_of (state_part place state.now)) (count_to place site.now state.now) }
 {
-    let held = read_at(state, place);
+    let held = read_state(state, place);
     operations::service_outcome(e, held, count_to_at(site, state, place))
 }
 
@@ -95,7 +95,7 @@ fn worked(
     state: &[u8],
     operation: Operation,
     e: Entry,
-    place: Option<usize>,
+    place: Option<Place>,
 ) -> Decided
     ensures { result ≡ worked_at (Some operation) place e site.now state.now }
 {
@@ -107,7 +107,7 @@ fn worked(
             at_object(operations::adjust_outcome(e, count), place)
         }
         Operation::SetDisable => {
-            let held = read_at(state, place);
+            let held = read_state(state, place);
             at_object(operations::disable_outcome(e, held), place)
         }
         Operation::SetService => at_object(service_at(site, state, e, place), place),
@@ -136,8 +136,7 @@ fn refused_as(r: EntryRefusal) -> Decided
 
 #[tactic(auto, using(crate::proofs::Decisions::decided_outcome, crate::proofs::Decisions::stepped))]
 pub fn step(site: &IndexedSite, state: &mut [u8], e: Entry) -> Answer
-    requires site_len { length site.now % 32 ≡ 0 }
-    requires state_len { length state.old ≡ length site.now }
+    requires { length state.old ≡ state_length site.now }
     ensures state_after { state.new ≡ state_of (apply (entry_outcome (panel site.now state.old) e) (panel site.now state.old)) }
     ensures answer { result ≡ (entry_outcome (panel site.now state.old) e).answer }
 {
