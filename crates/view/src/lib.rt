@@ -4,7 +4,9 @@
 
 ghost use Rattle.std.specs.Prelude.{◌≡◌, length};
 ghost use Rattle.model.specs.Site.{records, lookup, find_in};
-ghost use Rattle.model.specs.Calls.{check_site, fresh_result, fresh_state, check_state, run_result, run_journal};
+ghost use Rattle.model.specs.Calls.{check_site, state_result, fresh_state, check_state, run_result, run_journal};
+ghost use Rattle.model.specs.State.{state_length};
+ghost use Rattle.model.specs.Longer.{shorten_state, lengthen_state};
 ghost use Rattle.site.specs.Factor.{fits};
 ghost use Rattle.view.specs.Object.{kind_of, instance_of};
 
@@ -75,8 +77,15 @@ impl<'a> SiteView<'a> {
         calls::check_site(self.bytes)
     }
 
+    // How long its state is.
+    pub fn state_length(&self) -> usize
+        ensures { result ≡ state_length self.now.bytes.now }
+    {
+        lookup::state_length(self.bytes)
+    }
+
     pub fn make_fresh(&self, state: &mut [u8]) -> Result<(), Refusal>
-        ensures { fresh_result result state.new ≡ fresh_state self.now.bytes.now state.old }
+        ensures { state_result result state.new ≡ fresh_state self.now.bytes.now state.old }
     {
         calls::make_fresh(self.bytes, state)
     }
@@ -97,6 +106,20 @@ impl<'a> SiteView<'a> {
     {
         calls::work_through(self.bytes, state, journal, answers)
     }
+
+    // From the longer state of before to the shorter one.
+    pub fn shorten(&self, long: &[u8], state: &mut [u8]) -> Result<(), Refusal>
+        ensures { state_result result state.new ≡ shorten_state self.now.bytes.now long.now state.old }
+    {
+        calls::shorten(self.bytes, long, state)
+    }
+
+    // And back.
+    pub fn lengthen(&self, state: &[u8], long: &mut [u8]) -> Result<(), Refusal>
+        ensures { state_result result long.new ≡ lengthen_state self.now.bytes.now state.now long.old }
+    {
+        calls::lengthen(self.bytes, state, long)
+    }
 }
 
 // The upper calls, as document 01 has them beside those of a view: each makes a view of the site and works on it.
@@ -107,7 +130,7 @@ pub fn check_site(site: &[u8]) -> Result<(), Refusal>
 }
 
 pub fn fresh_state(site: &[u8], state: &mut [u8]) -> Result<(), Refusal>
-    ensures { fresh_result result state.new ≡ fresh_state site.now state.old }
+    ensures { state_result result state.new ≡ fresh_state site.now state.old }
 {
     SiteView::of(site).make_fresh(state)
 }
@@ -127,4 +150,23 @@ pub fn run_journal(
     ensures { run_result result state.new answers.new ≡ run_journal site.now state.old journal.now answers.old }
 {
     SiteView::of(site).work_through(state, journal, answers)
+}
+
+pub fn shorten_state(site: &[u8], long: &[u8], state: &mut [u8]) -> Result<(), Refusal>
+    ensures { state_result result state.new ≡ shorten_state site.now long.now state.old }
+{
+    SiteView::of(site).shorten(long, state)
+}
+
+pub fn lengthen_state(site: &[u8], state: &[u8], long: &mut [u8]) -> Result<(), Refusal>
+    ensures { state_result result long.new ≡ lengthen_state site.now state.now long.old }
+{
+    SiteView::of(site).lengthen(state, long)
+}
+
+// How long the state of a site is, on any bytes.
+pub fn state_length(site: &[u8]) -> usize
+    ensures { result ≡ state_length site.now }
+{
+    SiteView::of(site).state_length()
 }

@@ -1,13 +1,13 @@
 -- What a call gives to C: the number of its outcome, and the later contents of the buffers that it is lent to write.
 use Rattle.std.specs.Prelude.{ℕ, List, Result, Ok, Err}
-use Rattle.model.specs.Calls.{number, FreshResult, RunResult}
+use Rattle.model.specs.Calls.{number, StateResult, RunResult}
 use Rattle.wiegand.specs.Wiegand.{returned_number}
 use Rattle.wiegand.specs.declared.Factor.{Factor}
 use Rattle.wiegand.specs.declared.NotTwentySixBits.{NotTwentySixBits}
 
--- Of the fresh state, the number and the state.
-abbrev pub numbered_fresh : FreshResult → ℕ × List ℕ
-numbered_fresh f = (number f.returned, f.state)
+-- Of a call that writes a state, the number and that state.
+abbrev pub numbered_state : StateResult → ℕ × List ℕ
+numbered_state f = (number f.returned, f.state)
 
 -- Of a run, the number, the state and the answers.
 abbrev pub numbered_run : RunResult → ℕ × List ℕ × List ℕ

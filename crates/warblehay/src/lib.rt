@@ -4,11 +4,15 @@
 ghost use Rattle.std.specs.Prelude.{◌≡◌};
 ghost use Rattle.model.specs.Numbers.{access_zone, access_point, access_credential};
 ghost use Rattle.model.specs.Calls.{number, check_site, fresh_state, check_state, run_journal};
+ghost use Rattle.model.specs.State.{state_length};
+ghost use Rattle.model.specs.Longer.{shorten_state, lengthen_state};
 ghost use Rattle.site.specs.Place.{place_of};
 ghost use Rattle.wiegand.specs.Wiegand.{read_wiegand26, write_wiegand26};
-ghost use Rattle.warblehay.specs.Numbered.{numbered_fresh, numbered_run, numbered_reading};
-ghost use Rattle.warblehay.specs.PlaceNumber.{place_number};
+ghost use Rattle.warblehay.specs.Numbered.{numbered_state, numbered_run, numbered_reading};
+ghost use Rattle.warblehay.specs.PlaceNumber.{place_numbers};
 
+use index::Place;
+use model::numbers::RECORD_SIZE;
 use model::{CredentialId, PointId, ZoneId};
 use site::lookup::place_of;
 
@@ -24,7 +28,7 @@ pub extern "C" fn warblehay_check_site(site: &[u8]) -> u32
 
 #[unsafe(no_mangle)]
 pub extern "C" fn warblehay_fresh_state(site: &[u8], state: &mut [u8]) -> u32
-    ensures { (result, state.new) ≡ numbered_fresh (fresh_state site.now state.old) }
+    ensures { (result, state.new) ≡ numbered_state (fresh_state site.now state.old) }
 {
     calls::number_of(view::fresh_state(site, state))
 }
@@ -48,33 +52,62 @@ pub extern "C" fn warblehay_run_journal(
     calls::number_of(view::run_journal(site, state, journal, answers))
 }
 
-// C has no Option, so that a number stands for no place.
-fn place_number(place: Option<usize>) -> usize
-    ensures { result ≡ place_number place }
+// C has no Option, so that a number stands for no place. The offset is handed out by the lent word.
+fn place_number(place: Option<Place>, state_offset: &mut usize) -> usize
+    ensures { (result, state_offset.new) ≡ place_numbers place }
 {
-    place.unwrap_or(NOWHERE)
+    let Some(p) = place else {
+        *state_offset = NOWHERE;
+        return NOWHERE;
+    };
+    *state_offset = p.state * RECORD_SIZE;
+    p.site
 }
 
-// The lookups, on any bytes: the place of the first record of a kind and an instance, 0 for the first of the site. Three, since C has no generics.
+// How long the state of a site is, on any bytes.
 #[unsafe(no_mangle)]
-pub extern "C" fn warblehay_place_of_zone(site: &[u8], zone: u32) -> usize
-    ensures { result ≡ place_number (place_of access_zone zone site.now) }
+pub extern "C" fn warblehay_state_length(site: &[u8]) -> usize
+    ensures { result ≡ state_length site.now }
 {
-    place_number(place_of(site, ZoneId(zone)))
+    view::state_length(site)
+}
+
+// From the longer state of before to the shorter one, and back.
+#[unsafe(no_mangle)]
+pub extern "C" fn warblehay_shorten_state(site: &[u8], longer: &[u8], state: &mut [u8]) -> u32
+    ensures { (result, state.new) ≡ numbered_state (shorten_state site.now longer.now state.old) }
+{
+    calls::number_of(view::shorten_state(site, longer, state))
 }
 
 #[unsafe(no_mangle)]
-pub extern "C" fn warblehay_place_of_point(site: &[u8], point: u32) -> usize
-    ensures { result ≡ place_number (place_of access_point point site.now) }
+pub extern "C" fn warblehay_lengthen_state(site: &[u8], state: &[u8], longer: &mut [u8]) -> u32
+    ensures { (result, longer.new) ≡ numbered_state (lengthen_state site.now state.now longer.old) }
 {
-    place_number(place_of(site, PointId(point)))
+    calls::number_of(view::lengthen_state(site, state, longer))
+}
+
+// The lookups, on any bytes: the place of the first record of a kind and an instance, 0 for the first of the site, and the offset of its state record in the
+// state. Three, since C has no generics.
+#[unsafe(no_mangle)]
+pub extern "C" fn warblehay_place_of_zone(site: &[u8], zone: u32, state_offset: &mut usize) -> usize
+    ensures { (result, state_offset.new) ≡ place_numbers (place_of access_zone zone site.now) }
+{
+    place_number(place_of(site, ZoneId(zone)), state_offset)
 }
 
 #[unsafe(no_mangle)]
-pub extern "C" fn warblehay_place_of_credential(site: &[u8], credential: u32) -> usize
-    ensures { result ≡ place_number (place_of access_credential credential site.now) }
+pub extern "C" fn warblehay_place_of_point(site: &[u8], point: u32, state_offset: &mut usize) -> usize
+    ensures { (result, state_offset.new) ≡ place_numbers (place_of access_point point site.now) }
 {
-    place_number(place_of(site, CredentialId(credential)))
+    place_number(place_of(site, PointId(point)), state_offset)
+}
+
+#[unsafe(no_mangle)]
+pub extern "C" fn warblehay_place_of_credential(site: &[u8], credential: u32, state_offset: &mut usize) -> usize
+    ensures { (result, state_offset.new) ≡ place_numbers (place_of access_credential credential site.now) }
+{
+    place_number(place_of(site, CredentialId(credential)), state_offset)
 }
 
 // Raw 26-bit readers: the factor of the bits, or format and value as they were where nothing is made.
