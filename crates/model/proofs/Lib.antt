@@ -22,6 +22,7 @@ pub mod Isolation
 pub mod Well
 pub mod WellStep
 pub mod KeptWell
+pub mod Longer
 pub mod LeftOut
 pub mod Shifts
 pub mod SameShifts

@@ -2,7 +2,7 @@
 use Rattle.std.specs.Prelude.{if◌then◌else◌}
 use Prim.Native.Nat.{ℕ, zero, suc, ◌+◌, ◌*◌, ◌/◌, ◌≤◌, ◌<◌}
 use native.Mathlib.Omega.{arith}
-use mathlib.Core.Path.{◌≡◌, refl, sym, ◌∙◌, ap}
+use mathlib.Core.Path.{◌≡◌, refl, ◌∙◌, ap}
 use mathlib.Core.List.{List, [], ◌∷◌, ◌++◌, append_assoc}
 use mathlib.Core.Bool.{Bool, true, false}
 use lib.ListN.{length, take, drop, get_or, set, length-drop}
@@ -11,7 +11,7 @@ use Rattle.octets.specs.Octets.{with_part}
 use Rattle.octets.proofs.GroupLaws.{group_at}
 use Rattle.model.specs.Words.{keep}
 use Rattle.model.specs.Site.{records}
-use Rattle.model.specs.State.{Pair, kept, state_size, state_length, state_place, paired, panel}
+use Rattle.model.specs.State.{kept, state_size, state_length, state_place, paired, panel}
 use Rattle.model.specs.InPlace.{part_of}
 use Rattle.model.specs.Demands.{StateInPlace}
 
