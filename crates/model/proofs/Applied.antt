@@ -1,23 +1,26 @@
 -- The theorems of Demands applied to small lists of runs, computed: their premises can be met, and an edited definition makes them false.
 use Prim.Native.Nat.{ℕ}
 use mathlib.Core.Path.{◌≡◌, refl}
-use mathlib.Core.List.{List, [], ◌∷◌, ◌++◌, map}
+use mathlib.Core.List.{List, [], ◌∷◌, ◌++◌, map, flatten}
 use mathlib.Core.Bool.{true}
 use lib.Dec.{eqb}
 use lib.IntN.{pos, negsuc}
-use lib.ListN.{take}
+use lib.ListN.{length, take}
+use Rattle.std.specs.Prelude.{Ok}
 use Rattle.octets.specs.Octets.{field}
 use Rattle.model.specs.Words.{all}
 use Rattle.model.specs.Numbers.{NONE, NEVER, UNLIMITED}
-use Rattle.model.specs.State.{fresh_record, well_formed}
-use Rattle.model.specs.Calls.{number}
-use Rattle.model.specs.Lists.{History, run_on, returns, begun, ended, answers_in, first_of, event_in, refusal_in, Worked, worked}
+use Rattle.model.specs.Site.{records}
+use Rattle.model.specs.State.{state_length, state_place, fresh, fresh_record, well_formed}
+use Rattle.model.specs.Calls.{number, RunResult}
+use Rattle.model.specs.Lists.{History, Run, results, run_on, returns, begun, ended, answers_in, first_of, event_in, refusal_in, Worked, worked}
 use Rattle.model.specs.Tally.{smaller, move, set_to, signed, passed, tallied, tally, tally_of, standing, count_of}
 use Rattle.model.specs.Part.{part_records, part_answers, part_state}
 use Rattle.model.specs.DayPasses.{is_grant_of, grant_times, times_granted, dates_granted, days_in_site, state_left, last_of, taken_since, days_taken, never_fall, different}
 use Rattle.model.specs.WrongTries.{is_try_of, is_disable_of, tried_once, tried_by, tried_after, most_tries, tried_of, tries_in, tries_since}
+use Rattle.model.specs.Longer.{long_panel, long_fresh_record, long_fresh, long_record_well, long_well_formed, check_long_state, long_run_on, long_results, shorter, long_record, longer, with_shorter, shorten_returned, shorten_state, lengthen_returned, lengthen_state}
 use Rattle.model.proofs.Open.{definitions}
-use Rattle.model.proofs.Build.{zone, point, locking_point, credential, absent_credential, master_credential, tried_credential, card, code, read, damaged, set_count, adjust, lock, cut, run_of, events, run, history, examples}
+use Rattle.model.proofs.Build.{every_rule, rule, zone, point, locking_point, credential, absent_credential, master_credential, tried_credential, card, code, read, damaged, set_count, adjust, lock, cut, run_of, events, run, history, examples}
 use Rattle.model.proofs.Parts.{part, nothing, isolation_tests, left_out_tests, parts}
 
 -- One name that opens the definitions of Tally.
@@ -234,3 +237,45 @@ west_events = refl
 pub west_untouched : part_state (part nothing nothing) forgetful_east ≡ map fresh_record (part_records (part nothing nothing) forgetful_east)
 unfolding definitions examples coded_wings forgetful_east parts
 west_untouched = refl
+
+-- ── half the state
+
+-- Rules and factors stand before, between and behind the records that have state.
+unfoldable pub mixed : List ℕ
+unfolding examples
+mixed =
+    flatten
+    (every_rule 9 ∷ zone 23 1 ∷ card 5 55 ∷ card 5 56 ∷ point 2 10 0 1 23 NONE ∷ rule 9 1 2 10 20 ∷ credential 5 NEVER UNLIMITED 9
+    ∷ card 5 57 ∷ [])
+
+unfoldable pub mixed_runs : List Run
+unfolding examples
+mixed_runs = map run ((read 2 100 55 ∷ read 2 160 55 ∷ []) ∷ cut ∷ (read 2 220 77 ∷ []) ∷ [])
+
+unfoldable pub longs : Unit {0}
+unfolding definitions examples mixed mixed_runs long_panel long_fresh_record long_fresh long_record_well long_well_formed check_long_state long_run_on long_results shorter long_record longer with_shorter shorten_returned shorten_state lengthen_returned lengthen_state
+longs = tt
+
+-- Eight records, of which three have state: that of the credential stands third.
+pub mixed_lengths : length mixed ∷ state_length mixed ∷ state_place 6 (records mixed) ∷ [] ≡ 256 ∷ 96 ∷ 2 ∷ []
+unfolding longs
+mixed_lengths = refl
+
+pub mixed_checked : check_long_state mixed (long_fresh mixed) ≡ Ok tt
+unfolding longs
+mixed_checked = refl
+
+pub mixed_fresh : (shorter mixed (long_fresh mixed) ≡ fresh mixed) × (longer mixed (fresh mixed) ≡ long_fresh mixed)
+unfolding longs
+mixed_fresh = (refl, refl)
+
+-- The same numbers, answers and kept records, and what they are is not nothing.
+pub mixed_results : results mixed (fresh mixed) mixed_runs ≡ map (with_shorter mixed) (long_results mixed (long_fresh mixed) mixed_runs)
+unfolding longs
+mixed_results = refl
+
+pub mixed_events :
+    map (λ (x : RunResult). number x.returned ∷ map event_in (answers_in x.answers)) (results mixed (fresh mixed) mixed_runs)
+    ≡ (0 ∷ 1 ∷ 142 ∷ []) ∷ (10 ∷ []) ∷ (0 ∷ 129 ∷ []) ∷ []
+unfolding longs
+mixed_events = refl

@@ -1,21 +1,22 @@
 -- The theorems of Demands at the small lists of Applied: what is asked can be met, and what is said is of these bytes.
 use Prim.Native.Nat.{ℕ, ◌+◌}
 use native.Mathlib.Omega.{arith}
-use mathlib.Core.Path.{◌≡◌, refl}
+use mathlib.Core.Path.{◌≡◌, refl, ap}
 use mathlib.Core.List.{List, [], ◌∷◌, map, flatten}
 use mathlib.Core.Bool.{true, ◌||◌}
 use lib.Dec.{lit<, lit≤, ltb, eqb}
-use lib.ListN.{take, drop}
+use lib.ListN.{take, drop, get_or}
 use lib.IntN.{pos}
 use Rattle.octets.specs.Octets.{field, put}
 use Rattle.model.specs.Numbers.{NONE, NEVER, UNLIMITED}
 use Rattle.model.specs.Site.{credential_id, records, location}
-use Rattle.model.specs.State.{Panel, panel, sites, find, fresh}
+use Rattle.model.specs.State.{Pair, Panel, panel, sites, find, fresh}
 use Rattle.model.specs.Entry.{entry_of}
 use Rattle.model.specs.Checks.{time_fits}
 use Rattle.model.specs.Step.{situation_of}
-use Rattle.model.specs.Calls.{check_site}
-use Rattle.model.specs.Lists.{Worked, worked_in, begun, worked}
+use Rattle.std.specs.Prelude.{Ok}
+use Rattle.model.specs.Calls.{check_site, check_state}
+use Rattle.model.specs.Lists.{results, Worked, worked_in, begun, worked}
 use Rattle.model.specs.Tally.{standing, tally_of, count_of}
 use Rattle.model.specs.Part.{SelfContained, part_answers, part_state, others_left_out}
 use Rattle.model.specs.Earned.{FittingRule, Earned}
@@ -23,11 +24,12 @@ use Rattle.model.specs.Shifts.{is_shift, following_days, until_midnight, since_m
 use Rattle.model.specs.DayPasses.{times_granted, dates_granted, days_in_site, state_left, last_of, days_taken, different}
 use Rattle.model.specs.WrongTries.{most_tries, tried_of, tries_in, tries_since}
 use Rattle.model.specs.InPlace.{part_of, number_in}
-use Rattle.model.specs.Demands.{InPlace, ReadInPlace, Count, Isolation, GrantEarned, ShiftHalves, SameShifts, FreshShifts, AcceptedShifts, LastGrant, DaysTaken, DaysOfAdmission, OthersLeftOut, WrongTries, GrantBelowMost}
+use Rattle.model.specs.Longer.{check_long_state, long_fresh, long_results, shorter, longer, with_shorter}
+use Rattle.model.specs.Demands.{HalfState, ShorterWell, LongerWell, StateInPlace, InPlace, ReadInPlace, Count, Isolation, GrantEarned, ShiftHalves, SameShifts, FreshShifts, AcceptedShifts, LastGrant, DaysTaken, DaysOfAdmission, OthersLeftOut, WrongTries, GrantBelowMost}
 use Rattle.model.proofs.Open.{definitions}
 use Rattle.model.proofs.Build.{zone, point, credential, card, rule, read, run, examples}
 use Rattle.model.proofs.Parts.{part, nothing, parts}
-use Rattle.model.proofs.Applied.{hall, west, east, both_wings, west_alone, guest, passes, floor, codes, coded_wings, forgetful}
+use Rattle.model.proofs.Applied.{hall, west, east, both_wings, west_alone, guest, passes, floor, codes, coded_wings, forgetful, mixed, mixed_runs, mixed_checked, longs}
 use Rattle.model.proofs.Counted.{count_is_tally}
 use Rattle.model.proofs.Isolation.{isolation}
 use Rattle.model.proofs.LeftOut.{others_left_out_law}
@@ -37,6 +39,8 @@ use Rattle.model.proofs.SameShifts.{same_shifts, fresh_shifts}
 use Rattle.model.proofs.ShiftsAccepted.{accepted_shifts}
 use Rattle.model.proofs.DayPasses.{last_grant_law, days_taken_law, days_of_admission, dates_never_fall}
 use Rattle.model.proofs.WrongTries.{wrong_tries_law, grant_below_most}
+use Rattle.model.proofs.Longer.{half_state, shorter_well_law, longer_well_law}
+use Rattle.model.proofs.StatePlaces.{state_in_place}
 use Rattle.model.proofs.InPlace.{in_place, read_in_place, site_readers}
 
 -- The count of zone 9 in the hall.
@@ -168,3 +172,24 @@ location_in_place = read_in_place ℕ 32 8 4 location number_in site_readers.loc
 pub instance_in_place : field 4 4 (part_of 32 1 guarded) ≡ field 36 4 guarded
 unfolding definitions examples guarded InPlace
 instance_in_place = (in_place 32 1 4 4 guarded (lit< tt) (lit≤ tt)).1
+
+-- ── half the state
+
+-- From the longer fresh state of the mixed site, and from the shorter one of it.
+pub mixed_half : results mixed (shorter mixed (long_fresh mixed)) mixed_runs ≡ map (with_shorter mixed) (long_results mixed (long_fresh mixed) mixed_runs)
+unfolding longs HalfState
+mixed_half = half_state mixed (long_fresh mixed) mixed_runs refl refl
+
+-- The shorter one is accepted, and has its longer one back; and the other way round.
+pub mixed_across : (check_state mixed (shorter mixed (long_fresh mixed)) ≡ Ok tt) × (longer mixed (shorter mixed (long_fresh mixed)) ≡ long_fresh mixed)
+unfolding ShorterWell
+mixed_across = shorter_well_law mixed (long_fresh mixed) mixed_checked
+
+pub mixed_back : (check_long_state mixed (longer mixed (fresh mixed)) ≡ Ok tt) × (shorter mixed (longer mixed (fresh mixed)) ≡ fresh mixed)
+unfolding longs LongerWell
+mixed_back = longer_well_law mixed (fresh mixed) refl
+
+-- The credential, seventh of the site, has the third record of the state.
+pub mixed_placed : (get_or (panel mixed (fresh mixed)) 6 ([], [])).1 ≡ part_of 32 2 (fresh mixed)
+unfolding longs StateInPlace
+mixed_placed = ap (λ (x : Pair). x.1) (state_in_place mixed (fresh mixed) 6 refl (lit< tt) refl)
