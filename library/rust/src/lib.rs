@@ -7,9 +7,9 @@
 //! One that is turned back has changed no slice. Nothing is allocated or kept between calls, and
 //! a call uses less than 8 KiB of stack.
 //!
-//! A state has a record of [`numbers::RECORD_SIZE`] bytes for each zone, point and credential of its site, in
-//! site sequence, and none for rules and factors. The longer state of an engine of before, with a
-//! record for every record of the site, is brought over by [`shorten_state`].
+//! A state has a record of [`numbers::RECORD_SIZE`] bytes for each zone, point and credential of its
+//! site, in site sequence, and none for rules and factors. The longer state of an engine of before,
+//! with a record for every record of the site, is brought over by [`shorten_state`].
 //!
 //! `docs/FORMATS.md` of the repository has the layouts and says of each of the [`numbers`] when it
 //! is given.
