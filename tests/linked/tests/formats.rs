@@ -415,21 +415,18 @@ fn the_card_of_the_example() {
     assert_eq!(value[5..], [131, 0, 78], "as the document says");
 }
 
-/// The bytes of the example's lines that hold so many groups of digits before their words.
-fn bytes_of_example(groups: usize, said: impl Fn(&str) -> bool) -> Vec<u8> {
+/// The bytes of all lines of the example, each with its words behind three spaces or more.
+fn bytes_of_example() -> Vec<u8> {
     let document = document::text();
     let (_, example) = document.split_once("## An example").expect("an example");
     example
         .lines()
         .filter_map(|line| line.strip_prefix("    ")?.split_once("   "))
-        .filter(|(_, words)| said(words.trim_start()))
-        .flat_map(|(digits, _)| bytes_of_digits(digits, groups))
+        .flat_map(|(digits, _)| bytes_of(&digits.replace(' ', "")))
         .collect()
 }
 
-fn bytes_of_digits(digits: &str, groups: usize) -> Vec<u8> {
-    assert_eq!(digits.split(' ').count(), groups, "{digits}");
-    let digits = digits.replace(' ', "");
+fn bytes_of(digits: &str) -> Vec<u8> {
     (0..digits.len())
         .step_by(2)
         .map(|at| u8::from_str_radix(&digits[at..at + 2], 16).expect("digits"))
@@ -442,9 +439,9 @@ fn example_file(name: &str) -> Vec<u8> {
     std::fs::read(file).expect("the example is there")
 }
 
-/// The state that the journal leaves on the site, as it stands in the example.
+/// Site, journal, answers, and the state that the journal leaves.
 #[test]
-fn the_state_of_the_example() {
+fn the_example_is_worked_as_it_stands() {
     let (site, journal) = (example_file("site"), example_file("journal"));
     let mut state = fresh(&site);
     let mut answers = vec![0; journal.len() / ENTRY_SIZE * ANSWER_SIZE];
@@ -452,9 +449,10 @@ fn the_state_of_the_example() {
         run_journal(&site, &mut state, &journal, &mut answers),
         Ok(())
     );
-    assert_eq!(state, bytes_of_example(8, |said| said.starts_with("state")));
-    assert_eq!(words_of_line("The state that the journal leaves")[6], "128");
-    assert_eq!(state.len(), 128);
+    let length = &words_of_line("The state that the journal leaves")[6];
+    assert_eq!(*length, state.len().to_string());
+    let worked = [site, journal, answers, state].concat();
+    assert_eq!(bytes_of_example(), worked);
 }
 
 /// "credential 6" in a site.

@@ -169,9 +169,10 @@ fn what_is_not_well_formed_is_turned_back_with_6() {
             let mut changed = longer.clone();
             changed[place * RECORD_SIZE + bit / 8] ^= 1 << (bit % 8);
             let kept = kept_of(&site, &changed);
-            let form = match has_state(record) {
-                true => check_state(&site, &kept),
-                false => STATE_FORM,
+            let form = if has_state(record) {
+                check_state(&site, &kept)
+            } else {
+                STATE_FORM
             };
             let left = |bytes: &[u8]| match form {
                 WORKED_THROUGH => (form, bytes.to_vec()),
