@@ -7,32 +7,30 @@ use std::process::ExitCode;
 use std::{env, fs};
 use warblehay::numbers::*;
 use warblehay::{
-    check_state, fresh_state, place_of_credential, place_of_point, place_of_zone, TurnedBack,
+    check_state, fresh_state, place_of_credential, place_of_point, place_of_zone, state_length,
+    Place, TurnedBack,
 };
 
 /// The state of the new site. It is checked: what is handed back can be run.
 fn carried(old_site: &[u8], old_state: &[u8], new_site: &[u8]) -> Result<Vec<u8>, TurnedBack> {
     check_state(old_site, old_state)?;
-    let mut state = vec![0; new_site.len()];
+    let mut state = vec![0; state_length(new_site)];
     fresh_state(new_site, &mut state)?;
-    let old_records = old_site
-        .chunks_exact(RECORD_SIZE)
-        .zip(old_state.chunks_exact(RECORD_SIZE));
-    for (old_record, old) in old_records {
-        let Some(place) = place_in(new_site, old_record) else {
+    for record in old_site.chunks_exact(RECORD_SIZE) {
+        let places = [old_site, new_site].map(|site| place_in(site, record));
+        let [Some(old), Some(new)] = places else {
             continue;
         };
-        let at = place * RECORD_SIZE..(place + 1) * RECORD_SIZE;
-        let new = &mut state[at.clone()];
-        new.copy_from_slice(old);
-        fit(new_site, &new_site[at], new);
+        let held = &mut state[new.state..][..RECORD_SIZE];
+        held.copy_from_slice(&old_state[old.state..][..RECORD_SIZE]);
+        fit(new_site, &new_site[new.site * RECORD_SIZE..], held);
     }
     check_state(new_site, &state)?;
     Ok(state)
 }
 
 /// Where a site has the object of a record. Rules and factors have no state to carry.
-fn place_in(site: &[u8], record: &[u8]) -> Option<usize> {
+fn place_in(site: &[u8], record: &[u8]) -> Option<Place> {
     let instance = number_at(record, INSTANCE);
     match record[KIND] {
         ACCESS_ZONE => place_of_zone(site, instance),
@@ -69,7 +67,7 @@ fn fit(site: &[u8], record: &[u8], state: &mut [u8]) {
     }
 }
 
-fn drop_missing(state: &mut [u8], at: usize, place_of: impl Fn(u32) -> Option<usize>) {
+fn drop_missing(state: &mut [u8], at: usize, place_of: impl Fn(u32) -> Option<Place>) {
     if place_of(number_at(state, at)).is_none() {
         state[at..at + 4].copy_from_slice(&NONE.to_be_bytes());
     }

@@ -4,10 +4,10 @@
 use std::process::ExitCode;
 use std::{env, fs, io};
 use warblehay::numbers::{ANSWER_SIZE, ENTRY_SIZE};
-use warblehay::{fresh_state, run_journal, TurnedBack};
+use warblehay::{fresh_state, run_journal, state_length, TurnedBack};
 
 fn answers(site: &[u8], journal: &[u8]) -> Result<Vec<u8>, TurnedBack> {
-    let mut state = vec![0; site.len()];
+    let mut state = vec![0; state_length(site)];
     let mut answers = vec![0; journal.len() / ENTRY_SIZE * ANSWER_SIZE];
     fresh_state(site, &mut state)?;
     run_journal(site, &mut state, journal, &mut answers)?;

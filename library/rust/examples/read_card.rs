@@ -6,7 +6,7 @@ use std::error::Error;
 use std::process::ExitCode;
 use std::{env, fs};
 use warblehay::numbers::*;
-use warblehay::{fresh_state, read_wiegand26, run_journal, Factor, TurnedBack};
+use warblehay::{fresh_state, read_wiegand26, run_journal, state_length, Factor, TurnedBack};
 
 /// At most 64 bits as one number, the first bit highest, with their count.
 fn bits(text: &str) -> Option<(u64, u32)> {
@@ -37,7 +37,7 @@ fn answer(
     (number, count): (u64, u32),
 ) -> Result<[u8; ANSWER_SIZE], TurnedBack> {
     let entry = entry(point, time, read_wiegand26(number, count)?);
-    let mut state = vec![0; site.len()];
+    let mut state = vec![0; state_length(site)];
     let mut answer = [0; ANSWER_SIZE];
     fresh_state(site, &mut state)?;
     run_journal(site, &mut state, &entry, &mut answer)?;

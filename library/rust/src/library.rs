@@ -3,6 +3,8 @@
 extern "C" {
     fn warblehay_check_site(site: *const u8, site_length: usize) -> u32;
 
+    fn warblehay_state_length(site: *const u8, site_length: usize) -> usize;
+
     fn warblehay_fresh_state(
         site: *const u8,
         site_length: usize,
@@ -28,12 +30,44 @@ extern "C" {
         answers_length: usize,
     ) -> u32;
 
-    fn warblehay_place_of_zone(site: *const u8, site_length: usize, zone: u32) -> usize;
+    fn warblehay_shorten_state(
+        site: *const u8,
+        site_length: usize,
+        longer: *const u8,
+        longer_length: usize,
+        state: *mut u8,
+        state_length: usize,
+    ) -> u32;
 
-    fn warblehay_place_of_point(site: *const u8, site_length: usize, point: u32) -> usize;
+    fn warblehay_lengthen_state(
+        site: *const u8,
+        site_length: usize,
+        state: *const u8,
+        state_length: usize,
+        longer: *mut u8,
+        longer_length: usize,
+    ) -> u32;
 
-    fn warblehay_place_of_credential(site: *const u8, site_length: usize, credential: u32)
-        -> usize;
+    fn warblehay_place_of_zone(
+        site: *const u8,
+        site_length: usize,
+        zone: u32,
+        state_offset: *mut usize,
+    ) -> usize;
+
+    fn warblehay_place_of_point(
+        site: *const u8,
+        site_length: usize,
+        point: u32,
+        state_offset: *mut usize,
+    ) -> usize;
+
+    fn warblehay_place_of_credential(
+        site: *const u8,
+        site_length: usize,
+        credential: u32,
+        state_offset: *mut usize,
+    ) -> usize;
 
     fn warblehay_read_wiegand26(number: u64, count: u32, format: *mut u8, value: *mut u8) -> u32;
 
@@ -43,6 +77,11 @@ extern "C" {
 pub fn check_site(site: &[u8]) -> u32 {
     // SAFETY: the call asks for nothing but a live slice.
     unsafe { warblehay_check_site(site.as_ptr(), site.len()) }
+}
+
+pub fn state_length(site: &[u8]) -> usize {
+    // SAFETY: the call asks for nothing but a live slice.
+    unsafe { warblehay_state_length(site.as_ptr(), site.len()) }
 }
 
 pub fn fresh_state(site: &[u8], state: &mut [u8]) -> u32 {
@@ -71,19 +110,58 @@ pub fn run_journal(site: &[u8], state: &mut [u8], journal: &[u8], answers: &mut 
     }
 }
 
-pub fn place_of_zone(site: &[u8], zone: u32) -> usize {
-    // SAFETY: the call asks for nothing but a live slice.
-    unsafe { warblehay_place_of_zone(site.as_ptr(), site.len(), zone) }
+pub fn shorten_state(site: &[u8], longer: &[u8], state: &mut [u8]) -> u32 {
+    // SAFETY: the call asks for nothing but live slices, the lent one apart from all others.
+    unsafe {
+        warblehay_shorten_state(
+            site.as_ptr(),
+            site.len(),
+            longer.as_ptr(),
+            longer.len(),
+            state.as_mut_ptr(),
+            state.len(),
+        )
+    }
 }
 
-pub fn place_of_point(site: &[u8], point: u32) -> usize {
-    // SAFETY: the call asks for nothing but a live slice.
-    unsafe { warblehay_place_of_point(site.as_ptr(), site.len(), point) }
+pub fn lengthen_state(site: &[u8], state: &[u8], longer: &mut [u8]) -> u32 {
+    // SAFETY: the call asks for nothing but live slices, the lent one apart from all others.
+    unsafe {
+        warblehay_lengthen_state(
+            site.as_ptr(),
+            site.len(),
+            state.as_ptr(),
+            state.len(),
+            longer.as_mut_ptr(),
+            longer.len(),
+        )
+    }
 }
 
-pub fn place_of_credential(site: &[u8], credential: u32) -> usize {
-    // SAFETY: the call asks for nothing but a live slice.
-    unsafe { warblehay_place_of_credential(site.as_ptr(), site.len(), credential) }
+/// The place in the site and the offset in the state.
+pub fn place_of_zone(site: &[u8], zone: u32) -> (usize, usize) {
+    let mut offset = 0;
+    // SAFETY: the call asks for nothing but a live slice and a live number apart from it.
+    let place = unsafe { warblehay_place_of_zone(site.as_ptr(), site.len(), zone, &mut offset) };
+    (place, offset)
+}
+
+/// As `place_of_zone`.
+pub fn place_of_point(site: &[u8], point: u32) -> (usize, usize) {
+    let mut offset = 0;
+    // SAFETY: the call asks for nothing but a live slice and a live number apart from it.
+    let place = unsafe { warblehay_place_of_point(site.as_ptr(), site.len(), point, &mut offset) };
+    (place, offset)
+}
+
+/// As `place_of_zone`.
+pub fn place_of_credential(site: &[u8], credential: u32) -> (usize, usize) {
+    let mut offset = 0;
+    // SAFETY: the call asks for nothing but a live slice and a live number apart from it.
+    let place = unsafe {
+        warblehay_place_of_credential(site.as_ptr(), site.len(), credential, &mut offset)
+    };
+    (place, offset)
 }
 
 pub fn read_wiegand26(number: u64, count: u32, format: &mut u8, value: &mut [u8; 8]) -> u32 {

@@ -1,6 +1,6 @@
-/* damaged SITE JOURNAL MODE SEED CASES: every call on copies of a site, its fresh state, a journal and its answers whose bytes and lengths are
- * damaged at random, and on a reader's bits at random. The library is not itself instrumented, so MODE says how a step past a buffer's bounds is
- * seen:
+/* damaged SITE JOURNAL MODE SEED CASES: every call on copies of a site, its fresh state, the longer state of before, a journal and its answers whose
+ * bytes and lengths are damaged at random, and on a reader's bits at random. The library is not itself instrumented, so MODE says how a step past a
+ * buffer's bounds is seen:
  *
  *   heap    each buffer is an allocation of exactly its length
  *   before  each ends right before a page that faults, with bytes before it that must stay
@@ -20,8 +20,8 @@
 
 enum { ROOM = 1 << 17, KEPT_BYTES = 64, KEPT = 0xC5 };
 enum { HEAP, BEFORE, AFTER };
-enum { SITE, STATE, JOURNAL, ANSWERS, RUN_BUFFERS, FORMAT = RUN_BUFFERS, VALUE, BUFFERS };
-enum { CHECK_SITE, FRESH, CHECK_STATE, RUN, READ_WIEGAND26, CALLS };
+enum { SITE, STATE, JOURNAL, ANSWERS, RUN_BUFFERS, LONGER = RUN_BUFFERS, EXAMPLES, FORMAT = EXAMPLES, VALUE, OFFSET, BUFFERS };
+enum { CHECK_SITE, FRESH, CHECK_STATE, RUN, SHORTEN, LENGTHEN, READ_WIEGAND26, CALLS };
 enum { LARGEST_RETURNED = WARBLEHAY_NOT_TWENTY_SIX_BITS, VALUE_SIZE = 8, WIEGAND26_NUMBERS = 67108864 };
 
 /* What the case puts into a buffer. */
@@ -38,11 +38,12 @@ struct lent {
 
 static int mode;
 static unsigned long case_number;
-static struct bytes example[RUN_BUFFERS], damaged[BUFFERS];
+static struct bytes example[EXAMPLES], damaged[BUFFERS], made;
 static struct lent lent[BUFFERS];
 static uint8_t *between_guards[BUFFERS];
 static unsigned long returned_times[CALLS][LARGEST_RETURNED + 1];
 static unsigned long found_times[WARBLEHAY_ACCESS_CREDENTIAL + 1], missed_times[WARBLEHAY_ACCESS_CREDENTIAL + 1];
+static unsigned long empty_times, filled_times;
 static unsigned long error_times, good_times, written_times;
 static uint64_t sum = 14695981039346656037u;
 
@@ -110,6 +111,15 @@ static void lend(int i)
     }
 }
 
+/* Lends a buffer with any bytes in it. */
+static void lend_any(int i, size_t length)
+{
+    damaged[i].length = length;
+    for (size_t k = 0; k < length; k++)
+        damaged[i].at[k] = (uint8_t)below(256);
+    lend(i);
+}
+
 static int is_as_it_was(int i)
 {
     return lent[i].length == 0 || memcmp(lent[i].at, damaged[i].at, lent[i].length) == 0;
@@ -152,25 +162,55 @@ static void change_length(struct bytes *bytes, size_t unit)
         set_length(bytes, bytes->length < by ? 0 : bytes->length - by);
 }
 
-/* Repeats a record at the end, or cuts it out, in site and state. */
+/* Whether a record of the site is one that has a state. */
+static int has_state(size_t place)
+{
+    unsigned kind = damaged[SITE].at[place * WARBLEHAY_RECORD_SIZE];
+    return kind == WARBLEHAY_ACCESS_ZONE || kind == WARBLEHAY_ACCESS_POINT || kind == WARBLEHAY_ACCESS_CREDENTIAL;
+}
+
+/* The bytes of state of the first records of the site. */
+static size_t state_before(size_t records)
+{
+    size_t length = 0;
+    for (size_t i = 0; i < records; i++)
+        length += has_state(i) ? WARBLEHAY_RECORD_SIZE : 0;
+    return length;
+}
+
+static size_t expected_state_length(void)
+{
+    return state_before(damaged[SITE].length / WARBLEHAY_RECORD_SIZE);
+}
+
+static int have_states_their_lengths(void)
+{
+    return damaged[STATE].length == expected_state_length() && damaged[LONGER].length == damaged[SITE].length;
+}
+
+static void change_record(struct bytes *bytes, size_t from, int is_repeated)
+{
+    size_t length = bytes->length, rest = from + WARBLEHAY_RECORD_SIZE;
+    if (is_repeated) {
+        set_length(bytes, length + WARBLEHAY_RECORD_SIZE);
+        memcpy(bytes->at + length, bytes->at + from, WARBLEHAY_RECORD_SIZE);
+    } else {
+        memmove(bytes->at + from, bytes->at + rest, length - rest);
+        set_length(bytes, length - WARBLEHAY_RECORD_SIZE);
+    }
+}
+
+/* Repeats a record at the end, or cuts it out, in site and states. */
 static void change_records(int is_repeated)
 {
     size_t records = damaged[SITE].length / WARBLEHAY_RECORD_SIZE;
-    if (records == 0 || damaged[STATE].length != damaged[SITE].length)
+    if (records == 0 || !have_states_their_lengths())
         return;
-    size_t from = below(records) * WARBLEHAY_RECORD_SIZE;
-    for (int i = SITE; i <= STATE; i++) {
-        struct bytes *bytes = &damaged[i];
-        size_t length = bytes->length;
-        if (is_repeated) {
-            set_length(bytes, length + WARBLEHAY_RECORD_SIZE);
-            memcpy(bytes->at + length, bytes->at + from, WARBLEHAY_RECORD_SIZE);
-        } else {
-            size_t rest = from + WARBLEHAY_RECORD_SIZE;
-            memmove(bytes->at + from, bytes->at + rest, length - rest);
-            set_length(bytes, length - WARBLEHAY_RECORD_SIZE);
-        }
-    }
+    size_t place = below(records);
+    if (has_state(place))
+        change_record(&damaged[STATE], state_before(place), is_repeated);
+    change_record(&damaged[SITE], place * WARBLEHAY_RECORD_SIZE, is_repeated);
+    change_record(&damaged[LONGER], place * WARBLEHAY_RECORD_SIZE, is_repeated);
 }
 
 /* A journal that is as long as a journal may be, or an entry longer, with answers to suit. */
@@ -187,11 +227,11 @@ static void lengthen_journal(void)
 
 static void damage(void)
 {
-    static const size_t units[RUN_BUFFERS] = {
-        WARBLEHAY_RECORD_SIZE, WARBLEHAY_RECORD_SIZE, WARBLEHAY_ENTRY_SIZE, WARBLEHAY_ANSWER_SIZE
+    static const size_t units[EXAMPLES] = {
+        WARBLEHAY_RECORD_SIZE, WARBLEHAY_RECORD_SIZE, WARBLEHAY_ENTRY_SIZE, WARBLEHAY_ANSWER_SIZE, WARBLEHAY_RECORD_SIZE
     };
     uint64_t kind = below(100);
-    size_t buffer = below(RUN_BUFFERS);
+    size_t buffer = below(EXAMPLES);
     if (kind < 50)
         change_byte(&damaged[buffer]);
     else if (kind < 75)
@@ -234,10 +274,23 @@ static size_t expected_place(unsigned kind, uint32_t instance)
     return WARBLEHAY_NOWHERE;
 }
 
-static void try_place(unsigned kind, size_t place, uint32_t instance)
+/* Where there is no such record, the offset is NOWHERE too. */
+static size_t expected_offset(size_t place)
 {
+    return place == WARBLEHAY_NOWHERE ? WARBLEHAY_NOWHERE : state_before(place);
+}
+
+/* A lookup, with any bytes in the offset before. */
+static void try_place(unsigned kind, size_t (*place_of)(const uint8_t *, size_t, uint32_t, size_t *), uint32_t instance)
+{
+    lend_any(OFFSET, sizeof(size_t));
+    size_t place = place_of(lent[SITE].at, lent[SITE].length, instance, (size_t *)lent[OFFSET].at);
+    size_t offset;
+    memcpy(&offset, lent[OFFSET].at, sizeof offset);
     EXPECT(place == expected_place(kind, instance));
+    EXPECT(offset == expected_offset(place));
     (place == WARBLEHAY_NOWHERE ? missed_times : found_times)[kind]++;
+    take_back(OFFSET);
 }
 
 /* The lookups, of an instance that some record has, or of none. */
@@ -248,18 +301,26 @@ static void try_places(void)
     if (records != 0 && below(2) == 0)
         instance = number_at(damaged[SITE].at + below(records) * WARBLEHAY_RECORD_SIZE + 4);
     lend(SITE);
-    const uint8_t *site = lent[SITE].at;
-    size_t length = lent[SITE].length;
-    try_place(WARBLEHAY_ACCESS_ZONE, warblehay_place_of_zone(site, length, instance), instance);
-    try_place(WARBLEHAY_ACCESS_POINT, warblehay_place_of_point(site, length, instance), instance);
-    try_place(WARBLEHAY_ACCESS_CREDENTIAL, warblehay_place_of_credential(site, length, instance), instance);
+    try_place(WARBLEHAY_ACCESS_ZONE, warblehay_place_of_zone, instance);
+    try_place(WARBLEHAY_ACCESS_POINT, warblehay_place_of_point, instance);
+    try_place(WARBLEHAY_ACCESS_CREDENTIAL, warblehay_place_of_credential, instance);
+    EXPECT(is_as_it_was(SITE));
+    take_back(SITE);
+}
+
+static void try_state_length(void)
+{
+    lend(SITE);
+    size_t length = warblehay_state_length(lent[SITE].at, lent[SITE].length);
+    EXPECT(length == expected_state_length());
+    *(length == 0 ? &empty_times : &filled_times) += 1;
     EXPECT(is_as_it_was(SITE));
     take_back(SITE);
 }
 
 static uint32_t try_fresh(uint32_t expected)
 {
-    if (expected == WARBLEHAY_WORKED_THROUGH && damaged[STATE].length != damaged[SITE].length)
+    if (expected == WARBLEHAY_WORKED_THROUGH && damaged[STATE].length != expected_state_length())
         expected = WARBLEHAY_STATE_LENGTH;
     lend(SITE);
     lend(STATE);
@@ -315,16 +376,98 @@ static void try_run(uint32_t expected)
         take_back(i);
 }
 
-/* Lends format and value with any bytes in them. */
+/* Puts the longer state's records of zones, points and credentials into `made`. Whether those of rules and factors are zero. */
+static int make_shorter(void)
+{
+    static const uint8_t zeros[WARBLEHAY_RECORD_SIZE];
+    int is_zero_elsewhere = 1;
+    made.length = 0;
+    for (size_t at = 0; at < damaged[SITE].length; at += WARBLEHAY_RECORD_SIZE) {
+        const uint8_t *record = damaged[LONGER].at + at;
+        if (has_state(at / WARBLEHAY_RECORD_SIZE)) {
+            memcpy(made.at + made.length, record, WARBLEHAY_RECORD_SIZE);
+            made.length += WARBLEHAY_RECORD_SIZE;
+        } else if (memcmp(record, zeros, WARBLEHAY_RECORD_SIZE) != 0) {
+            is_zero_elsewhere = 0;
+        }
+    }
+    return is_zero_elsewhere;
+}
+
+/* Puts the state's records at the places of their site records into `made`, and zeros elsewhere. */
+static void make_longer(void)
+{
+    const uint8_t *record = damaged[STATE].at;
+    made.length = 0;
+    set_length(&made, damaged[SITE].length);
+    memset(made.at, 0, made.length);
+    for (size_t at = 0; at < made.length; at += WARBLEHAY_RECORD_SIZE) {
+        if (!has_state(at / WARBLEHAY_RECORD_SIZE))
+            continue;
+        memcpy(made.at + at, record, WARBLEHAY_RECORD_SIZE);
+        record += WARBLEHAY_RECORD_SIZE;
+    }
+}
+
+static uint32_t check_damaged_site_with(const struct bytes *state)
+{
+    return warblehay_check_state(damaged[SITE].at, damaged[SITE].length, state->at, state->length);
+}
+
+/* The buffer that is written has what was made where the call was worked through, and nothing else is changed. */
+static void expect_made(int written, int read, uint32_t returned)
+{
+    EXPECT(is_as_it_was(SITE) && is_as_it_was(read));
+    if (returned != WARBLEHAY_WORKED_THROUGH)
+        EXPECT(is_as_it_was(written));
+    else if (made.length != 0)
+        EXPECT(memcmp(lent[written].at, made.at, made.length) == 0);
+    take_back(SITE);
+    take_back(read);
+    take_back(written);
+}
+
+static void lend_site_and_states(void)
+{
+    lend(SITE);
+    lend(STATE);
+    lend(LONGER);
+}
+
+static void try_shorten(uint32_t expected)
+{
+    if (expected == WARBLEHAY_WORKED_THROUGH && !have_states_their_lengths())
+        expected = WARBLEHAY_STATE_LENGTH;
+    else if (expected == WARBLEHAY_WORKED_THROUGH)
+        expected = make_shorter() ? check_damaged_site_with(&made) : WARBLEHAY_STATE_FORM;
+    lend_site_and_states();
+    uint32_t returned = warblehay_shorten_state(lent[SITE].at, lent[SITE].length, lent[LONGER].at, lent[LONGER].length, lent[STATE].at,
+                                                lent[STATE].length);
+    count_returned(SHORTEN, returned);
+    EXPECT(returned == expected);
+    expect_made(STATE, LONGER, returned);
+}
+
+static void try_lengthen(uint32_t expected)
+{
+    if (expected == WARBLEHAY_WORKED_THROUGH && !have_states_their_lengths())
+        expected = WARBLEHAY_STATE_LENGTH;
+    else if (expected == WARBLEHAY_WORKED_THROUGH)
+        expected = check_damaged_site_with(&damaged[STATE]);
+    if (expected == WARBLEHAY_WORKED_THROUGH)
+        make_longer();
+    lend_site_and_states();
+    uint32_t returned = warblehay_lengthen_state(lent[SITE].at, lent[SITE].length, lent[STATE].at, lent[STATE].length, lent[LONGER].at,
+                                                 lent[LONGER].length);
+    count_returned(LENGTHEN, returned);
+    EXPECT(returned == expected);
+    expect_made(LONGER, STATE, returned);
+}
+
 static void lend_factor(void)
 {
-    damaged[FORMAT].length = 1;
-    damaged[VALUE].length = VALUE_SIZE;
-    for (int i = FORMAT; i <= VALUE; i++) {
-        for (size_t k = 0; k < damaged[i].length; k++)
-            damaged[i].at[k] = (uint8_t)below(256);
-        lend(i);
-    }
+    lend_any(FORMAT, 1);
+    lend_any(VALUE, VALUE_SIZE);
 }
 
 static uint32_t read_to_lent(uint64_t number, uint32_t count)
@@ -407,14 +550,18 @@ static void try_write_wiegand26(void)
 
 static void try_case(void)
 {
-    for (int i = 0; i < RUN_BUFFERS; i++) {
+    for (int i = 0; i < EXAMPLES; i++) {
         damaged[i].length = example[i].length;
         memcpy(damaged[i].at, example[i].at, example[i].length);
     }
     for (uint64_t damages = below(4); damages > 0; damages--)
         damage();
+    try_state_length();
     try_places();
-    try_run(try_check_state(try_fresh(try_check_site())));
+    uint32_t returned = try_check_site();
+    try_shorten(returned);
+    try_lengthen(returned);
+    try_run(try_check_state(try_fresh(returned)));
     try_read_wiegand26();
     try_write_wiegand26();
 }
@@ -428,11 +575,16 @@ static void read_example(int i, const char *name)
     fclose(file);
 }
 
-/* The fresh state, and answers that any write would change. */
+/* The fresh state and the longer one, and answers that any write would change. */
 static void make_rest_of_example(void)
 {
-    example[STATE].length = example[SITE].length;
-    EXPECT(warblehay_fresh_state(example[SITE].at, example[SITE].length, example[STATE].at, example[STATE].length) == WARBLEHAY_WORKED_THROUGH);
+    const struct bytes *site = &example[SITE];
+    struct bytes *state = &example[STATE], *longer = &example[LONGER];
+    state->length = warblehay_state_length(site->at, site->length);
+    longer->length = site->length;
+    EXPECT(state->length != 0 && state->length < longer->length);
+    EXPECT(warblehay_fresh_state(site->at, site->length, state->at, state->length) == WARBLEHAY_WORKED_THROUGH);
+    EXPECT(warblehay_lengthen_state(site->at, site->length, state->at, state->length, longer->at, longer->length) == WARBLEHAY_WORKED_THROUGH);
     example[ANSWERS].length = example[JOURNAL].length / WARBLEHAY_ENTRY_SIZE * WARBLEHAY_ANSWER_SIZE;
     memset(example[ANSWERS].at, KEPT, example[ANSWERS].length);
 }
@@ -459,6 +611,13 @@ static void report_wiegand26(void)
     printf("read_wiegand26 errors:%lu good:%lu\n", error_times, good_times);
     printf("write_wiegand26 read back:%lu\n", written_times);
     EXPECT(error_times != 0 && good_times != 0 && written_times != 0);
+}
+
+/* Sites have had a state, and none. */
+static void report_state_length(void)
+{
+    printf("state_length empty:%lu filled:%lu\n", empty_times, filled_times);
+    EXPECT(empty_times != 0 && filled_times != 0);
 }
 
 /* Each lookup has found a record, and none. */
@@ -497,6 +656,9 @@ int main(int count, char **arguments)
     report(FRESH, "fresh_state", WARBLEHAY_SITE_LENGTH, WARBLEHAY_STATE_LENGTH);
     report(CHECK_STATE, "check_state", WARBLEHAY_SITE_LENGTH, WARBLEHAY_STATE_FORM);
     report(RUN, "run_journal", WARBLEHAY_SITE_LENGTH, WARBLEHAY_ANSWERS_LENGTH);
+    report(SHORTEN, "shorten_state", WARBLEHAY_SITE_LENGTH, WARBLEHAY_STATE_FORM);
+    report(LENGTHEN, "lengthen_state", WARBLEHAY_SITE_LENGTH, WARBLEHAY_STATE_FORM);
+    report_state_length();
     report_places(WARBLEHAY_ACCESS_ZONE, "place_of_zone");
     report_places(WARBLEHAY_ACCESS_POINT, "place_of_point");
     report_places(WARBLEHAY_ACCESS_CREDENTIAL, "place_of_credential");

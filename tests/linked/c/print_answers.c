@@ -3,7 +3,7 @@
 
 #include <stdio.h>
 
-/* A byte more than the longest, so that a longer file is turned back by its length. */
+/* A byte more than the longest, so that a longer file is turned back by its length. A state is never longer than its site. */
 static uint8_t site[WARBLEHAY_LARGEST_SITE + 1];
 static uint8_t state[sizeof site];
 static uint8_t journal[WARBLEHAY_LARGEST_JOURNAL + 1];
@@ -34,10 +34,11 @@ int main(int count, char **arguments)
         return 1;
     }
 
+    size_t state_length = warblehay_state_length(site, site_length);
     size_t answers_length = journal_length / WARBLEHAY_ENTRY_SIZE * WARBLEHAY_ANSWER_SIZE;
-    uint32_t returned = warblehay_fresh_state(site, site_length, state, site_length);
+    uint32_t returned = warblehay_fresh_state(site, site_length, state, state_length);
     if (returned == WARBLEHAY_WORKED_THROUGH)
-        returned = warblehay_run_journal(site, site_length, state, site_length, journal, journal_length, answers, answers_length);
+        returned = warblehay_run_journal(site, site_length, state, state_length, journal, journal_length, answers, answers_length);
     if (returned != WARBLEHAY_WORKED_THROUGH) {
         printf("%u\n", (unsigned)returned);
         return 0;

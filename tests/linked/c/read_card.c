@@ -7,7 +7,7 @@
 #include <stdlib.h>
 #include <string.h>
 
-/* A byte more than the longest, so that a longer file is turned back by its length. */
+/* A byte more than the longest, so that a longer file is turned back by its length. A state is never longer than its site. */
 static uint8_t site[WARBLEHAY_LARGEST_SITE + 1];
 static uint8_t state[sizeof site];
 static uint8_t entry[WARBLEHAY_ENTRY_SIZE];
@@ -67,10 +67,11 @@ int main(int count, char **arguments)
 
     entry[WARBLEHAY_ENTRY_OPERATION] = WARBLEHAY_OPERATION_FACTOR;
     uint32_t returned = warblehay_read_wiegand26(bits, bits_count, &entry[WARBLEHAY_ENTRY_ARGUMENT], &entry[WARBLEHAY_ENTRY_VALUE]);
+    size_t state_length = warblehay_state_length(site, site_length);
     if (returned == WARBLEHAY_WORKED_THROUGH)
-        returned = warblehay_fresh_state(site, site_length, state, site_length);
+        returned = warblehay_fresh_state(site, site_length, state, state_length);
     if (returned == WARBLEHAY_WORKED_THROUGH)
-        returned = warblehay_run_journal(site, site_length, state, site_length, entry, sizeof entry, answer, sizeof answer);
+        returned = warblehay_run_journal(site, site_length, state, state_length, entry, sizeof entry, answer, sizeof answer);
     if (returned != WARBLEHAY_WORKED_THROUGH) {
         printf("%u\n", (unsigned)returned);
         return 0;

@@ -10,8 +10,8 @@
 enum { STACK_SIZE = 1 << 16, PAINT = 0xC5 };
 
 static uint8_t stack[STACK_SIZE];
-static uint8_t site[WARBLEHAY_LARGEST_SITE], state[sizeof site], journal[WARBLEHAY_LARGEST_JOURNAL], answers[sizeof journal];
-static size_t site_length, journal_length, place;
+static uint8_t site[WARBLEHAY_LARGEST_SITE], state[sizeof site], longer[sizeof site], journal[WARBLEHAY_LARGEST_JOURNAL], answers[sizeof journal];
+static size_t site_length, state_length, journal_length, place, offset;
 static uint32_t returned, card_bits;
 static uint8_t format, value[8];
 static ucontext_t caller, callee;
@@ -30,36 +30,52 @@ static void check_site(void)
     returned = warblehay_check_site(site, site_length);
 }
 
+/* It is never turned back. */
+static void measure_state(void)
+{
+    state_length = warblehay_state_length(site, site_length);
+}
+
 static void fresh(void)
 {
-    returned = warblehay_fresh_state(site, site_length, state, site_length);
+    returned = warblehay_fresh_state(site, site_length, state, state_length);
 }
 
 static void check_state(void)
 {
-    returned = warblehay_check_state(site, site_length, state, site_length);
+    returned = warblehay_check_state(site, site_length, state, state_length);
 }
 
 static void run(void)
 {
     size_t answers_length = journal_length / WARBLEHAY_ENTRY_SIZE * WARBLEHAY_ANSWER_SIZE;
-    returned = warblehay_run_journal(site, site_length, state, site_length, journal, journal_length, answers, answers_length);
+    returned = warblehay_run_journal(site, site_length, state, state_length, journal, journal_length, answers, answers_length);
+}
+
+static void lengthen_state(void)
+{
+    returned = warblehay_lengthen_state(site, site_length, state, state_length, longer, site_length);
+}
+
+static void shorten_state(void)
+{
+    returned = warblehay_shorten_state(site, site_length, longer, site_length, state, state_length);
 }
 
 /* The lookups and the writing of bits are never turned back. */
 static void place_of_zone(void)
 {
-    place = warblehay_place_of_zone(site, site_length, WARBLEHAY_NONE);
+    place = warblehay_place_of_zone(site, site_length, WARBLEHAY_NONE, &offset);
 }
 
 static void place_of_point(void)
 {
-    place = warblehay_place_of_point(site, site_length, WARBLEHAY_NONE);
+    place = warblehay_place_of_point(site, site_length, WARBLEHAY_NONE, &offset);
 }
 
 static void place_of_credential(void)
 {
-    place = warblehay_place_of_credential(site, site_length, WARBLEHAY_NONE);
+    place = warblehay_place_of_credential(site, site_length, WARBLEHAY_NONE, &offset);
 }
 
 static void write_wiegand26(void)
@@ -99,7 +115,8 @@ int main(int count, char **arguments)
         return 1;
 
     void (*const calls[])(void) = {
-        check_site, fresh, check_state, run, place_of_zone, place_of_point, place_of_credential, write_wiegand26, read_wiegand26
+        check_site, measure_state, fresh, check_state, run, lengthen_state, shorten_state, place_of_zone, place_of_point, place_of_credential,
+        write_wiegand26, read_wiegand26
     };
     for (size_t index = 0; index < sizeof calls / sizeof *calls; index++) {
         size_t used = used_by(calls[index]);

@@ -12,6 +12,18 @@ pub fn fresh_state(site: &[u8], state: &mut [u8]) -> u32 {
     number(warblehay::fresh_state(site, state))
 }
 
+pub fn state_length(site: &[u8]) -> usize {
+    warblehay::state_length(site)
+}
+
+pub fn shorten_state(site: &[u8], longer: &[u8], state: &mut [u8]) -> u32 {
+    number(warblehay::shorten_state(site, longer, state))
+}
+
+pub fn lengthen_state(site: &[u8], state: &[u8], longer: &mut [u8]) -> u32 {
+    number(warblehay::lengthen_state(site, state, longer))
+}
+
 pub fn check_state(site: &[u8], state: &[u8]) -> u32 {
     number(warblehay::check_state(site, state))
 }

@@ -3,6 +3,7 @@
 mod library;
 
 use reference::build::{journal, Credential, EntryFields, Factor, Point, Record, Zone, FORMAT};
+use reference::bytes::get32;
 use reference::generate::clock::base_time;
 use reference::generate::{journal as random_journal, site as random_site, Random};
 use reference::settings;
@@ -12,7 +13,7 @@ use std::process::{Command, Output};
 use warblehay::numbers::*;
 use warblehay::{
     check_state, fresh_state, place_of_credential, place_of_point, place_of_zone, run_journal,
-    TurnedBack,
+    state_length, Place, TurnedBack,
 };
 
 const ZONE: u32 = 1;
@@ -88,7 +89,7 @@ fn records() -> Vec<Record> {
 }
 
 fn fresh(site: &[u8]) -> Vec<u8> {
-    let mut state = vec![0; site.len()];
+    let mut state = vec![0; state_length(site)];
     assert_eq!(fresh_state(site, &mut state), Ok(()));
     state
 }
@@ -151,10 +152,10 @@ fn carried(test: &str, old_site: &[u8], old_state: &[u8], new_site: &[u8]) -> Ve
     state
 }
 
-/// The state record at a place.
-fn at(state: &[u8], place: Option<usize>) -> &[u8] {
-    let start = place.expect("the object is there") * RECORD_SIZE;
-    &state[start..start + RECORD_SIZE]
+/// The state record of an object.
+fn at(state: &[u8], place: Option<Place>) -> &[u8] {
+    let place = place.expect("the object is there");
+    &state[place.state..][..RECORD_SIZE]
 }
 
 #[test]
@@ -169,6 +170,9 @@ fn in_place_every_object_keeps_its_state() {
     }
     .record();
     new_records.extend([credential(7), factor(7)]);
+    // A factor that stood before a credential goes to the end.
+    let moved = new_records.remove(3);
+    new_records.push(moved);
     let new_site = new_records.concat();
     let mut state = [&old_state[..], &fresh(&new_site)[old_state.len()..]].concat();
     assert_eq!(check_state(&new_site, &state), Ok(()));
@@ -181,6 +185,78 @@ fn in_place_every_object_keeps_its_state() {
         at(&state, place_of_zone(&new_site, ZONE))[..4],
         [0, 0, 0, 2]
     );
+}
+
+/// Whether a record has a state: one of a zone, a point or a credential.
+fn has_state(record: &[u8]) -> bool {
+    ![ACCESS_RULE, AUTHENTICATION_FACTOR].contains(&record[KIND])
+}
+
+/// The site with its rules and factors at any places, and without some of them where they may go.
+fn with_others_moved(random: &mut Random, site: &[u8], may_go: bool) -> Vec<u8> {
+    let records = site.chunks_exact(RECORD_SIZE);
+    let (mut moved, others): (Vec<_>, Vec<_>) = records.partition(|record| has_state(record));
+    for other in others {
+        let place = random.below(moved.len() + 1);
+        if !may_go || random.below(2) == 0 {
+            moved.insert(place, other);
+        }
+    }
+    moved.concat()
+}
+
+/// Where rules and factors move, the state stays, and each object has its own record in it.
+#[test]
+fn in_place_rules_and_factors_move_anywhere() {
+    let mut random = settings::random();
+    let mut moved = 0;
+    for _ in 0..2_000 {
+        let base = base_time(&mut random);
+        let site = random_site(&mut random, base);
+        let [first, second] = [0; 2].map(|_| random_journal(&mut random, base, &site, 20));
+        let mut state = fresh(&site);
+        answers(&site, &mut state, &first);
+        let mut new_state = state.clone();
+        let new_site = with_others_moved(&mut random, &site, false);
+        let expected = answers(&site, &mut state, &second);
+        assert_eq!(answers(&new_site, &mut new_state, &second), expected);
+        assert_eq!(new_state, state);
+        moved += usize::from(new_site != site);
+    }
+    assert!(moved > 1_000, "{moved} sites have rules or factors");
+}
+
+/// Where rules and factors come and go, the state stays, and is that of the same objects.
+#[test]
+fn in_place_rules_and_factors_come_and_go() {
+    let mut random = settings::random();
+    for _ in 0..2_000 {
+        let base = base_time(&mut random);
+        let site = random_site(&mut random, base);
+        let fewer = with_others_moved(&mut random, &site, true);
+        for (old_site, new_site) in [(&site, &fewer), (&fewer, &site)] {
+            let mut state = fresh(old_site);
+            let journal = random_journal(&mut random, base, old_site, 20);
+            answers(old_site, &mut state, &journal);
+            assert_eq!(check_state(new_site, &state), Ok(()));
+            for record in old_site.chunks_exact(RECORD_SIZE) {
+                let [old, new] = [old_site, new_site].map(|site| place_in(site, record));
+                assert_eq!(old.map(|place| place.state), new.map(|place| place.state));
+                assert_eq!(old.is_some(), has_state(record));
+            }
+        }
+    }
+}
+
+/// Where a site has the zone, point or credential of a record.
+fn place_in(site: &[u8], record: &[u8]) -> Option<Place> {
+    let instance = get32(record, INSTANCE);
+    match record[KIND] {
+        ACCESS_ZONE => place_of_zone(site, instance),
+        ACCESS_POINT => place_of_point(site, instance),
+        ACCESS_CREDENTIAL => place_of_credential(site, instance),
+        _ => None,
+    }
 }
 
 /// Uses, days and disable are the state's: the site's show in a fresh record alone.
@@ -196,15 +272,15 @@ fn in_place_the_sites_uses_and_disable_change_nothing() {
 }
 
 /// A most that is lowered to what adds up in the state turns the state back until that is 0.
-fn asks_for_none(place: Option<usize>, most: usize, counted: usize) {
+fn asks_for_none(place: Option<Place>, most: usize, counted: usize) {
     let site = larger_site();
     let mut state = larger_state(&site);
-    let start = place.expect("the object is there") * RECORD_SIZE;
-    assert_eq!(state[start + counted], 2);
+    let place = place.expect("the object is there");
+    assert_eq!(state[place.state + counted], 2);
     let mut new_site = site.clone();
-    new_site[start + most] = 2;
+    new_site[place.site * RECORD_SIZE + most] = 2;
     assert_eq!(check_state(&new_site, &state), Err(TurnedBack::StateForm));
-    state[start + counted] = 0;
+    state[place.state + counted] = 0;
     assert_eq!(check_state(&new_site, &state), Ok(()));
 }
 
@@ -363,23 +439,19 @@ fn halves(shift: &[u8]) -> [Vec<u8>; 2] {
     [until, since]
 }
 
-/// The site with the first half of each shift in its place and all second halves at the end.
-fn with_halves(site: &[u8]) -> Vec<u8> {
-    let (mut records, mut seconds) = (Vec::new(), Vec::new());
-    for record in site.chunks_exact(RECORD_SIZE) {
-        if !is_shift(record) {
-            records.push(record.to_vec());
-            continue;
+/// The site with something else in the place of each shift.
+fn with_shifts_as(site: &[u8], shift_as: impl Fn(&[u8]) -> Vec<u8>) -> Vec<u8> {
+    let records = site.chunks_exact(RECORD_SIZE);
+    let changed = records.map(|record| {
+        if is_shift(record) {
+            return shift_as(record);
         }
-        let [until, since] = halves(record);
-        records.push(until);
-        seconds.push(since);
-    }
-    [records, seconds].concat().concat()
+        record.to_vec()
+    });
+    changed.collect::<Vec<_>>().concat()
 }
 
-/// Pairs of rules become shifts under a live state: in place of the first of a pair, with the second as it was, a copy of the shift in its place
-/// or, since it stands at the end, nothing.
+/// Pairs of rules become shifts under a live state, which stays: the second of a pair goes, becomes a copy of the shift, or is left as it was.
 #[test]
 fn in_place_pairs_of_rules_become_shifts() {
     let mut random = settings::random();
@@ -387,23 +459,22 @@ fn in_place_pairs_of_rules_become_shifts() {
     for _ in 0..20_000 {
         let base = base_time(&mut random);
         let site = random_site(&mut random, base);
-        let pairs = with_halves(&site);
+        let pairs = with_shifts_as(&site, |shift| halves(shift).concat());
         let [first, second] = [0; 2].map(|_| random_journal(&mut random, base, &site, 20));
         let mut live = fresh(&pairs);
         answers(&pairs, &mut live, &first);
         let mut state = live.clone();
         let expected = answers(&pairs, &mut state, &second);
 
-        let shifts = site.chunks_exact(RECORD_SIZE).filter(|r| is_shift(r));
-        let copies = shifts.collect::<Vec<_>>().concat();
-        for end in [&pairs[site.len()..], &copies, &[]] {
-            let new_site = [&site, end].concat();
-            let mut new_state = live[..new_site.len()].to_vec();
-            assert_eq!(answers(&new_site, &mut new_state, &second), expected);
-            assert_eq!(new_state, state[..new_site.len()]);
+        let copied = with_shifts_as(&site, |shift| shift.repeat(2));
+        let left = with_shifts_as(&site, |shift| [shift, &halves(shift)[1]].concat());
+        for new_site in [&site, &copied, &left] {
+            let mut new_state = live.clone();
+            assert_eq!(answers(new_site, &mut new_state, &second), expected);
+            assert_eq!(new_state, state);
         }
-        let first_halves = &pairs[..site.len()];
-        let others = answers(first_halves, &mut live[..site.len()], &second);
+        let first_halves = with_shifts_as(&site, |shift| halves(shift)[0].clone());
+        let others = answers(&first_halves, &mut live, &second);
         decided += usize::from(others != expected);
     }
     assert!(decided > 200, "the second halves decided {decided} times");

@@ -7,12 +7,12 @@ use document::rows;
 use reference::build::{Credential, EntryFields, Factor, Point, Rule, FORMAT};
 use reference::bytes::{get16, get32, put32};
 use warblehay::numbers::*;
-use warblehay::{check_state, fresh_state, run_journal};
+use warblehay::{check_state, fresh_state, run_journal, state_length};
 
 const CARD: [u8; 8] = [7; 8];
 
-/// Where the state of the credential begins in a state of the site below.
-const HELD: usize = 2 * RECORD_SIZE;
+/// Where the state of the credential begins in a state of the site below: behind that of the point.
+const HELD: usize = RECORD_SIZE;
 
 /// A point, hours from 9:00 on every day, and a pass of three days.
 fn site() -> Vec<u8> {
@@ -34,7 +34,7 @@ fn site() -> Vec<u8> {
 }
 
 fn fresh(site: &[u8]) -> Vec<u8> {
-    let mut state = vec![0; site.len()];
+    let mut state = vec![0; state_length(site)];
     assert_eq!(fresh_state(site, &mut state), Ok(()));
     state
 }

@@ -8,7 +8,7 @@ use document::{put, row_of, rows, Row};
 use reference::build::{Credential, EntryFields, Factor, Point, Rule, Zone, FORMAT};
 use std::collections::{BTreeMap, BTreeSet};
 use warblehay::numbers::*;
-use warblehay::{fresh_state, run_journal};
+use warblehay::{fresh_state, run_journal, state_length};
 
 /// An event, and what is changed to bring it. The fields are those of the site, the state or the
 /// entry that is granted below; a zone is Zone_To, or Zone_From where it says so.
@@ -125,9 +125,18 @@ impl Change {
         self.name.contains("_STATE_")
     }
 
+    /// Where the record begins in the buffer that has it.
+    fn start(&self) -> usize {
+        let start = self.place.unwrap_or_default() * RECORD_SIZE;
+        if self.is_of_state() {
+            return state_length(&site()[..start]);
+        }
+        start
+    }
+
     /// Writes the number over the field, or sets or clears the flag, in the buffer that has it.
     fn apply(&self, bytes: &mut [u8]) {
-        let bytes = &mut bytes[self.place.unwrap_or_default() * RECORD_SIZE..];
+        let bytes = &mut bytes[self.start()..];
         let row = row_of(self.name);
         if row.cell("Bit").is_none() {
             return put(bytes, row.bytes(), self.number);
@@ -157,7 +166,7 @@ fn event_with(changes: &[Change]) -> u16 {
             &mut entry
         });
     }
-    let mut state = vec![0; site.len()];
+    let mut state = vec![0; state_length(&site)];
     assert_eq!(fresh_state(&site, &mut state), Ok(()));
     for change in changes.iter().filter(|change| change.is_of_state()) {
         change.apply(&mut state);

@@ -7,7 +7,10 @@ mod library;
 use document::{fields, put, rows, Row};
 use reference::build::{Credential, EntryFields, Factor, Point, Record, Rule, Zone, FORMAT};
 use warblehay::numbers::*;
-use warblehay::{check_site, check_state, fresh_state, run_journal, TurnedBack};
+use warblehay::{
+    check_site, check_state, fresh_state, lengthen_state, place_of_credential, place_of_point,
+    place_of_zone, run_journal, shorten_state, state_length, Place, TurnedBack,
+};
 
 /// The numbers at the ends of a range and beyond, each with whether it is in it.
 fn ends(lowest: u64, highest: u64, most: u64) -> Vec<(u64, bool)> {
@@ -166,10 +169,13 @@ fn bits_without_a_name_are_spare() {
 }
 
 fn fresh(site: &[u8]) -> Vec<u8> {
-    let mut state = vec![0xA5; site.len()];
+    let mut state = vec![0xA5; state_length(site)];
     assert_eq!(fresh_state(site, &mut state), Ok(()));
     state
 }
+
+/// The kinds that have a state; the records of the site's state are in the same order.
+const KEPT_KINDS: [&str; 3] = ["ZONE", "POINT", "CREDENTIAL"];
 
 /// Whether the fresh state is well formed when one of its records is changed.
 fn is_well_formed(place: usize, change: impl Fn(&mut [u8])) -> bool {
@@ -180,10 +186,7 @@ fn is_well_formed(place: usize, change: impl Fn(&mut [u8])) -> bool {
 }
 
 fn state_fields(kind: &str) -> Vec<Row> {
-    match kind {
-        "RULE" | "FACTOR" => Vec::new(),
-        _ => fields(&format!("{kind}_STATE_")),
-    }
+    fields(&format!("{kind}_STATE_"))
 }
 
 /// Numbers to try in a field of a state record.
@@ -210,7 +213,7 @@ fn state_tries(row: &Row) -> Vec<(u64, bool)> {
 
 #[test]
 fn state_bytes_without_a_field_are_spare() {
-    for (place, kind) in KINDS.into_iter().enumerate() {
+    for (place, kind) in KEPT_KINDS.into_iter().enumerate() {
         for byte in some_spare(&state_fields(kind), RECORD_SIZE) {
             assert!(
                 !is_well_formed(place, |record| record[byte] = 1),
@@ -222,7 +225,7 @@ fn state_bytes_without_a_field_are_spare() {
 
 #[test]
 fn state_fields_have_their_ranges() {
-    for (place, kind) in KINDS.into_iter().enumerate() {
+    for (place, kind) in KEPT_KINDS.into_iter().enumerate() {
         for row in state_fields(kind) {
             for (number, is_in_range) in state_tries(&row) {
                 let changed = is_well_formed(place, |record| put(record, row.bytes(), number));
@@ -235,8 +238,8 @@ fn state_fields_have_their_ranges() {
 #[test]
 fn the_fresh_state_is_that_of_the_table() {
     let site = records().concat();
-    let mut expected = vec![0; site.len()];
-    for (place, kind) in KINDS.into_iter().enumerate() {
+    let mut expected = vec![0; KEPT_KINDS.len() * RECORD_SIZE];
+    for (place, kind) in KEPT_KINDS.into_iter().enumerate() {
         for row in state_fields(kind) {
             let number = match (row.cell("Fresh"), row.name()) {
                 (Some("NONE"), _) => NONE.into(),
@@ -251,6 +254,40 @@ fn the_fresh_state_is_that_of_the_table() {
         }
     }
     assert_eq!(fresh(&site), expected);
+}
+
+/// Whether the longer state is well formed when one of its records is changed.
+fn is_longer_well_formed(place: usize, change: impl Fn(&mut [u8])) -> bool {
+    let site = records().concat();
+    let mut state = fresh(&site);
+    let mut longer = vec![0xA5; site.len()];
+    assert_eq!(lengthen_state(&site, &state, &mut longer), Ok(()));
+    change(&mut longer[place * RECORD_SIZE..][..RECORD_SIZE]);
+    shorten_state(&site, &longer, &mut state) == Ok(())
+}
+
+/// Of a rule and a factor it has zeros, and the fields above of the others.
+#[test]
+fn the_longer_state_has_the_same_fields_and_zeros() {
+    for (place, kind) in KINDS.into_iter().enumerate() {
+        let fields = match kind {
+            "RULE" | "FACTOR" => Vec::new(),
+            _ => state_fields(kind),
+        };
+        for byte in some_spare(&fields, RECORD_SIZE) {
+            assert!(
+                !is_longer_well_formed(place, |record| record[byte] = 1),
+                "{kind} {byte}"
+            );
+        }
+        for row in fields {
+            for (number, is_in_range) in state_tries(&row) {
+                let changed =
+                    is_longer_well_formed(place, |record| put(record, row.bytes(), number));
+                assert_eq!(changed, is_in_range, "{} {number}", row.name());
+            }
+        }
+    }
 }
 
 /// An entry in form for each operation, at an object that is there.
@@ -376,4 +413,82 @@ fn the_card_of_the_example() {
     let changed = warblehay::read_wiegand26((number ^ 0b110).into(), WIEGAND26_BITS);
     let value = changed.expect("26 bits").value;
     assert_eq!(value[5..], [131, 0, 78], "as the document says");
+}
+
+/// The bytes of all lines of the example, each with its words behind three spaces or more.
+fn bytes_of_example() -> Vec<u8> {
+    let document = document::text();
+    let (_, example) = document.split_once("## An example").expect("an example");
+    example
+        .lines()
+        .filter_map(|line| line.strip_prefix("    ")?.split_once("   "))
+        .flat_map(|(digits, _)| bytes_of(&digits.replace(' ', "")))
+        .collect()
+}
+
+fn bytes_of(digits: &str) -> Vec<u8> {
+    (0..digits.len())
+        .step_by(2)
+        .map(|at| u8::from_str_radix(&digits[at..at + 2], 16).expect("digits"))
+        .collect()
+}
+
+/// The file that the example is said to be.
+fn example_file(name: &str) -> Vec<u8> {
+    let file = library::repository("crates/print_journal/data").join(name);
+    std::fs::read(file).expect("the example is there")
+}
+
+/// Site, journal, answers, and the state that the journal leaves.
+#[test]
+fn the_example_is_worked_as_it_stands() {
+    let (site, journal) = (example_file("site"), example_file("journal"));
+    let mut state = fresh(&site);
+    let mut answers = vec![0; journal.len() / ENTRY_SIZE * ANSWER_SIZE];
+    assert_eq!(
+        run_journal(&site, &mut state, &journal, &mut answers),
+        Ok(())
+    );
+    let length = &words_of_line("The state that the journal leaves")[6];
+    assert_eq!(*length, state.len().to_string());
+    let worked = [site, journal, answers, state].concat();
+    assert_eq!(bytes_of_example(), worked);
+}
+
+/// "credential 6" in a site.
+fn place_in_example(record: &str, site: &[u8]) -> Option<Place> {
+    let (object, instance) = record.rsplit_once(' ').expect("an instance");
+    let instance = instance.parse().expect("a number");
+    match object {
+        "zone" => place_of_zone(site, instance),
+        "point" => place_of_point(site, instance),
+        "credential" => place_of_credential(site, instance),
+        _ => None,
+    }
+}
+
+/// The two results of a lookup, as the example has them: they differ behind a factor.
+#[test]
+fn the_places_of_the_example() {
+    let site = example_file("site");
+    let rows = rows("Begins in the state at");
+    assert_eq!(rows.len() * RECORD_SIZE, site.len());
+    for (place, row) in rows.iter().enumerate() {
+        assert_eq!(row.number("Place in the site"), place);
+        assert_eq!(row.number("Begins in the site at"), place * RECORD_SIZE);
+        let record = row.cell("Record").expect("a record");
+        let found = place_in_example(record, &site);
+        assert_eq!(
+            found.map(|found| found.site),
+            found.is_some().then_some(place)
+        );
+        let begins = found.map_or("no state".to_string(), |found| found.state.to_string());
+        assert_eq!(
+            row.cell("Begins in the state at"),
+            Some(&begins[..]),
+            "{record}"
+        );
+    }
+    let last = place_of_credential(&site, 6).expect("it is there");
+    assert_ne!(last.site * RECORD_SIZE, last.state);
 }

@@ -362,6 +362,38 @@ fn numbers_are_those_of_the_reference() {
     library::assert_succeeds(library::compiler().arg("-fsyntax-only").arg(file));
 }
 
+/// A C file that is compiled against the header, which passes or fails with a message.
+fn compiled(name: &str, source: &str) -> Result<(), String> {
+    let file = library::scratch("header").join(name);
+    fs::write(&file, source).expect("the C file is written");
+    let mut compiler = library::compiler();
+    let output = compiler.arg("-fsyntax-only").arg(file).output();
+    let output = output.expect("the compiler starts");
+    if output.status.success() {
+        return Ok(());
+    }
+    Err(String::from_utf8_lossy(&output.stderr).into_owned())
+}
+
+/// A caller of before took the place in the site for the place in the state too: it does not compile unchanged.
+#[test]
+fn a_lookup_asks_for_the_offset_in_the_state() {
+    for object in ["zone", "point", "credential"] {
+        let call = |asked: &str| {
+            format!(
+                "#include \"warblehay.h\"\n\
+                 size_t place(const uint8_t *site, size_t length);\n\
+                 size_t place(const uint8_t *site, size_t length)\n\
+                 {{\n    size_t offset;\n    (void)&offset;\n    \
+                 return warblehay_place_of_{object}(site, length, 5{asked});\n}}\n"
+            )
+        };
+        assert_eq!(compiled("asked.c", &call(", &offset")), Ok(()));
+        let message = compiled("unchanged.c", &call("")).expect_err("too few arguments");
+        assert!(message.contains("too few arguments"), "{message}");
+    }
+}
+
 #[test]
 fn every_outcome_of_the_papers_has_a_name() {
     let numbers: Vec<u64> = outcomes().into_iter().map(|(_, number)| number).collect();

@@ -6,14 +6,15 @@ use std::fs;
 use std::path::{Path, PathBuf};
 use std::process::Command;
 use warblehay::numbers::*;
-use warblehay::{place_of_credential, place_of_point, place_of_zone, TurnedBack};
+use warblehay::{place_of_credential, place_of_point, place_of_zone, Place, TurnedBack};
 
 const MAIN: &str = r#"
 fn main() {
     let arguments: Vec<String> = std::env::args().collect();
     let site = std::fs::read(&arguments[1]).expect("the site is there");
     let place = warblehay::place_of_credential(&site, 6);
-    println!("{:?} {:?}", warblehay::check_site(&site), place.map(|place| place * warblehay::numbers::RECORD_SIZE));
+    let begins = place.map(|place| (place.site * warblehay::numbers::RECORD_SIZE, place.state));
+    println!("{:?} {begins:?}", warblehay::check_site(&site));
 }
 "#;
 
@@ -54,7 +55,10 @@ fn a_package_of_the_makers_own_links_an_installed_library() {
     let mut run = cargo("run", package.join("Cargo.toml"), test);
     run.env("WARBLEHAY_LIB_DIR", installed).arg("--");
     run.arg(library::repository("crates/print_journal/data/site"));
-    assert_eq!(library::assert_succeeds(&mut run), "Ok(()) Some(128)\n");
+    assert_eq!(
+        library::assert_succeeds(&mut run),
+        "Ok(()) Some((128, 96))\n"
+    );
 }
 
 /// What cargo says where the maker's package cannot be built.
@@ -92,7 +96,7 @@ fn the_documentation_runs() {
         "package_documentation",
     );
     let printed = library::assert_succeeds(test.arg("--doc"));
-    assert!(printed.contains("2 passed; 0 failed"), "{printed}");
+    assert!(printed.contains("4 passed; 0 failed"), "{printed}");
 }
 
 /// Every number that a call returns but 0 is a case of the enum.
@@ -116,12 +120,13 @@ fn every_outcome_is_a_case() {
 fn lookups_find_the_first_record_or_nothing() {
     let site = fs::read(library::repository("crates/print_journal/data/site"))
         .expect("the example is there");
-    assert_eq!(place_of_zone(&site, 23), Some(0));
-    assert_eq!(place_of_point(&site, 2), Some(1));
-    assert_eq!(place_of_credential(&site, 5), Some(2));
-    assert_eq!(place_of_credential(&site, 6), Some(4));
+    let place = |site, state| Some(Place { site, state });
+    assert_eq!(place_of_zone(&site, 23), place(0, 0));
+    assert_eq!(place_of_point(&site, 2), place(1, 32));
+    assert_eq!(place_of_credential(&site, 5), place(2, 64));
+    assert_eq!(place_of_credential(&site, 6), place(4, 96));
     let again = [&site[..], &site[..RECORD_SIZE]].concat();
-    assert_eq!(place_of_zone(&again, 23), Some(0));
+    assert_eq!(place_of_zone(&again, 23), place(0, 0));
     assert_eq!(place_of_zone(&site, 2), None);
     assert_eq!(place_of_point(&site, 23), None);
     assert_eq!(place_of_credential(&[], NONE), None);

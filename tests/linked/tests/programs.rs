@@ -119,7 +119,7 @@ fn damaged_buffers() {
         library::assert_succeeds(on_example(program).args([mode, SEED, CASES]))
     };
     let reported = run(&plain, "heap");
-    assert_eq!(reported.lines().count(), 11);
+    assert_eq!(reported.lines().count(), 14);
     for mode in ["heap", "before", "after"] {
         assert_eq!(run(&sanitised, mode), reported, "{mode}");
     }
@@ -145,7 +145,7 @@ fn the_stack_stays_small() {
             .lines()
             .filter_map(|line| line.parse().ok())
             .collect();
-        assert_eq!(used.len(), 9, "a number for each call");
+        assert_eq!(used.len(), 12, "a number for each call");
         assert!(
             used.iter().all(|used| (1..STACK).contains(used)),
             "{used:?} bytes"
@@ -186,11 +186,14 @@ fn no_other_library_and_no_other_name() {
             "warblehay_check_site",
             "warblehay_check_state",
             "warblehay_fresh_state",
+            "warblehay_lengthen_state",
             "warblehay_place_of_credential",
             "warblehay_place_of_point",
             "warblehay_place_of_zone",
             "warblehay_read_wiegand26",
             "warblehay_run_journal",
+            "warblehay_shorten_state",
+            "warblehay_state_length",
             "warblehay_write_wiegand26",
         ]
     );

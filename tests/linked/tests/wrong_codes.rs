@@ -7,7 +7,7 @@ use document::rows;
 use reference::build::{Credential, EntryFields, Factor, Point, FORMAT};
 use reference::bytes::get16;
 use warblehay::numbers::*;
-use warblehay::{check_site, fresh_state, run_journal};
+use warblehay::{check_site, fresh_state, run_journal, state_length};
 
 const CARD: [u8; 8] = [5; 8];
 const CODE: [u8; 8] = [55; 8];
@@ -44,7 +44,7 @@ fn site(most_wrong_tries: u8, most_failures: u8) -> Vec<u8> {
 }
 
 fn fresh(site: &[u8]) -> Vec<u8> {
-    let mut state = vec![0; site.len()];
+    let mut state = vec![0; state_length(site)];
     assert_eq!(fresh_state(site, &mut state), Ok(()));
     state
 }
