@@ -19,7 +19,7 @@ filter_kept [] = refl
 filter_kept (s ∷ ss) = rw (filter_kept ss) refl
 
 -- No more than there are, from whichever on.
-keep_few : (ss : List (List ℕ)) → length (keep kept ss) ≤ length ss
+pub keep_few : (ss : List (List ℕ)) → length (keep kept ss) ≤ length ss
 keep_few [] = omega arith
 keep_few (s ∷ ss) = go (kept s) (keep_few ss)
   where
@@ -59,3 +59,10 @@ kept_all i ss = sym (kept_both (take i ss) (drop i ss)) ∙ ap (λ ts. length (k
 pub place_on : (from k : ℕ) (ss : List (List ℕ)) → state_place (from + k) ss ≡ state_place from ss + length (keep kept (take k (drop from ss)))
 unfolding state_place
 place_on from k ss = rw (take-add from k ss) (kept_both (take from ss) (take k (drop from ss)))
+
+-- Before the next stand those before a record and the record itself; and no more than there are.
+pub place_one : (i : ℕ) (ss : List (List ℕ)) → i < length ss → state_place (i + 1) ss ≡ state_place i ss + bit_of (kept (get_or ss i []))
+place_one i ss h = omega (arith, kept_one i ss h, kept_all i ss, kept_all (i + 1) ss)
+
+pub place_few : (i : ℕ) (ss : List (List ℕ)) → state_place i ss ≤ length ss
+place_few i ss = omega (arith, kept_all i ss, kept_few 0 ss)
