@@ -111,18 +111,19 @@ impl<'s, 'w> IndexedSite<'s, 'w> {
     }
 
     // How many records have state from a fourth one on.
-    fn kept_from(&self, from: usize) -> usize
+    fn kept_from(&self, from: usize) -> u16
         requires { (from % count_step ≡ 0) × (from ≤ length (records self.now)) }
         ensures { result ≡ kept_from from (records self.now) }
     {
-        usize::from(self.words[COUNTS + from / COUNT_STEP])
+        self.words[COUNTS + from / COUNT_STEP]
     }
 
     // How long the state is.
+    #[tactic(auto, unfolding(model::specs::State::state_length))]
     pub fn state_length(&self) -> usize
         ensures { result ≡ state_length self.now }
     {
-        self.kept_from(0) * RECORD_SIZE
+        usize::from(self.kept_from(0)) * RECORD_SIZE
     }
 
     // Where the i-th record and its state record stand: at most three records are read.
@@ -131,7 +132,7 @@ impl<'s, 'w> IndexedSite<'s, 'w> {
         ensures { result ≡ place_at i (records self.now) }
     {
         let from = i / COUNT_STEP * COUNT_STEP;
-        let before = self.kept_from(0) - self.kept_from(from);
+        let before = usize::from(self.kept_from(0) - self.kept_from(from));
         Place {
             site: i,
             state: before + super::kept_count(&self.records()[from..i]),

@@ -1,8 +1,9 @@
 // The records of a site by number, and an index of them that a call keeps on its stack. A record falls into a bucket by what it is looked up by. The
-// index has a link for each record, the next record of its bucket in file order, then a head for each bucket, its first record, and then the first and
-// the last record of each kind. Last it has, for each fourth record, how many from there on have state. The number of records ends a chain: it bounds the slices too, and fits the word, as an Option would not. Above the record's
-// number a link or a head has the tags of the rules from there on in its chain, a bit each, so that a walk for rules ends where none of their tag is left.
-// Nothing else knows where these stand. `as` widens a u32, which has no From to usize, and narrows what is known to fit, where try_from would test it again.
+// index has a link for each record, the next record of its bucket in file order, then a head for each bucket, its first record, then the first and the
+// last record of each kind, and last, for each fourth record, how many records from there on have state. The number of records ends a chain: it bounds the
+// slices too, and fits the word, as an Option would not. Above the record's number a link or a head has the tags of the rules from there on in its chain,
+// a bit each, so that a walk for rules ends where none of their tag is left. Nothing else knows where these stand. `as` widens a u32, which has no From to
+// usize, and narrows what is known to fit, where try_from would test it again.
 #![tactic(auto)]
 
 ghost use Rattle.std.specs.Prelude.{◌≡◌, [], ◌+◌, ◌*◌, ◌%◌, ◌≤◌, ◌<◌, eqb, length, get_or, if◌then◌else◌};
@@ -29,12 +30,11 @@ use model::numbers::{ACCESS_RULE, AUTHENTICATION_FACTOR, LOCATION_EVERYWHERE, RO
 use octets::Number;
 use records::Record;
 use records::site::{
-    format_of, instance_of, is_everywhere, is_kept, kind_of, location_kind_of, location_of,
-    role_of,
+    format_of, instance_of, is_everywhere, is_kept, kind_of, location_kind_of, location_of, role_of,
 };
 
-// The most records of a site, whose links come first; the buckets, whose heads follow; the classes of kinds, whose heads and
-// last records come last.
+// The most records of a site, whose links come first; the buckets, whose heads follow; the classes of kinds, whose heads and last records come before the
+// counts.
 pub const MOST_RECORDS: usize = 2000;
 
 const KIND_CLASSES: usize = 8;

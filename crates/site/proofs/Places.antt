@@ -10,10 +10,12 @@ use Rattle.octets.proofs.GroupLaws.{length_group}
 use Rattle.std.specs.Option.{is_some}
 use Rattle.model.specs.Words.{any}
 use Rattle.model.specs.Site.{records, is_at, find_in, lookup}
+use Rattle.model.specs.State.{state_place}
 use Rattle.model.specs.Accept.{exists}
 use Rattle.index.proofs.Building.{length_records}
-use Rattle.index.specs.Place.{place_from}
-use Rattle.site.specs.Place.{site_place}
+use Rattle.index.specs.Place.{place_from, place_at}
+use Rattle.index.specs.declared.Place.{Place}
+use Rattle.site.specs.Place.{site_place, both_at, place_of}
 use Rattle.site.proofs.Records.{no_bytes}
 
 -- What a place says of the records, the first of them counted as `from`, and a test: the record there is the first that passes, or none does. Every law of
@@ -54,6 +56,23 @@ module _ (q : List ℕ → Bool) (ss : List (List ℕ)) where
   pub found_nowhere : place_from q 0 ss ≡ None → find_in q ss ≡ []
   unfolding First
   found_nowhere e = let h : First q 0 ss None = rw e at (first q 0 ss) in h.0
+
+-- A place is that of both records, and no place that of none.
+pub place_both : (k i : ℕ) (site : List ℕ) (p : Place) → place_of k i site ≡ Some p → (site_place k i site ≡ Some p.site) × (p.state ≡ state_place p.site (records site))
+unfolding place_of
+place_both k i site p e = go (site_place k i site) e
+  where
+    go : (o : Option ℕ) → both_at (records site) o ≡ Some p → (o ≡ Some p.site) × (p.state ≡ state_place p.site (records site))
+    go (Some j) e = let q : place_at j (records site) ≡ p = cc in rw (← q) (refl, refl)
+    go None e = cc
+
+pub place_none : (k i : ℕ) (site : List ℕ) → place_of k i site ≡ None → site_place k i site ≡ None
+unfolding place_of
+place_none k i site e = go (site_place k i site) e
+  where
+    go : (o : Option ℕ) → both_at (records site) o ≡ None → o ≡ None
+    go (Some j) e = cc
+    go None e = refl
 
 -- The place of a record that is found: it is the record there.
 pub place_found : (k i j : ℕ) (site : List ℕ) → site_place k i site ≡ Some j
