@@ -1,6 +1,6 @@
 -- What is gathered at a point's place is the situation at the panel there, and the places are those of the records that its outcome names.
 use Rattle.std.specs.Prelude.{if◌then◌else◌, Option, Some, None}
-use Prim.Native.Nat.{ℕ, ◌%◌}
+use Prim.Native.Nat.{ℕ}
 use mathlib.Core.Path.{◌≡◌, refl}
 use mathlib.Core.List.{List}
 use mathlib.Core.Bool.{Bool, true, false, not, ◌&&◌, ◌||◌}
@@ -9,13 +9,14 @@ use lib.ListN.{length}
 use Rattle.model.specs.Numbers as n
 use Rattle.model.specs.Numbers.{NONE}
 use Rattle.model.specs.Site.{credential_id, records}
-use Rattle.model.specs.State.{panel}
+use Rattle.model.specs.State.{state_length, panel}
 use Rattle.model.specs.Checks.{waiting}
 use Rattle.model.specs.Effects.{counts, named, outcome_with, outcome_of}
 use Rattle.model.specs.Step.{factor_read, number_read, zone_to, zone_from, credential_at, situation_of, rules_at}
 use Rattle.model.proofs.Flat.{sites_panel}
+use Rattle.index.specs.declared.Place.{Place}
 use Rattle.site.specs.Place.{place_of}
-use Rattle.journal.specs.Places.{part_at, seek_place, PlacedAt, Placed}
+use Rattle.journal.specs.Places.{site_part, state_part, seek_place, PlacedAt, Placed}
 use Rattle.journal.specs.Gather.{waiting_at, factor_at, number_at, to_at, from_at, held_at, gathered}
 use Rattle.journal.specs.Decide.{rules_of}
 use Rattle.journal.proofs.At.{seek_at}
@@ -27,16 +28,16 @@ use Rattle.model.specs.declared.PointId.{PointId}
 use Rattle.model.specs.declared.Write.{Write}
 use Rattle.model.specs.declared.CredentialState.{CredentialState}
 
-module _ (site state : List ℕ) (whole_site : length site % 32 ≡ 0) (same_length : length state ≡ length site) where
+module _ (site state : List ℕ) (same_length : length state ≡ state_length site) where
   -- The situation at the panel is what is gathered at the point's place.
-  pub situation_at : (place : Option ℕ) (e : Entry) → situation_of (panel site state) e (part_at place site, part_at place state) ≡ (gathered place e site state).situation
+  pub situation_at : (place : Option Place) (e : Entry) → situation_of (panel site state) e (site_part place site, state_part place state) ≡ (gathered place e site state).situation
   unfolding situation_of factor_read number_read zone_to zone_from credential_at gathered waiting_at factor_at number_at to_at from_at held_at
   situation_at place e =
-      simp (sites_panel site state, seek_at site state whole_site same_length)
+      simp (sites_panel site state, seek_at site state same_length)
 
   -- The rules are asked of the site's records.
-  pub rules_at_law : (place : Option ℕ) (e : Entry) →
-      rules_at (panel site state) e (part_at place site, part_at place state)
+  pub rules_at_law : (place : Option Place) (e : Entry) →
+      rules_at (panel site state) e (site_part place site, state_part place state)
       ≡ rules_of (gathered place e site state).situation e (records site)
   unfolding rules_at
   rules_at_law place e = rw (situation_at place e, sites_panel site state) (unfold gathered in refl)
@@ -61,19 +62,19 @@ some_same : {A : Type 0} {x y : A} → Some x ≡ Some y → x ≡ y
 some_same h = cc
 
 module _ {I S : Type 0} (k : ℕ) (i : I → ℕ) (site : List ℕ) where
-  pub placed_none : (p : Option ℕ) → PlacedAt {I = I} {S = S} k i site None p
+  pub placed_none : (p : Option Place) → PlacedAt {I = I} {S = S} k i site None p
   placed_none p v q h = cc
 
-  pub placed_some : (w : Write I S) (p : Option ℕ) → (eqb (i w.instance) NONE ≡ false → p ≡ place_of k (i w.instance) site) →
+  pub placed_some : (w : Write I S) (p : Option Place) → (eqb (i w.instance) NONE ≡ false → p ≡ place_of k (i w.instance) site) →
       PlacedAt k i site (Some w) p
   placed_some w p h v q = rw (some_same q) at h
 
-  pub placed_if : (c : Bool) (w : Write I S) (p : Option ℕ) → (eqb (i w.instance) NONE ≡ false → p ≡ place_of k (i w.instance) site) →
+  pub placed_if : (c : Bool) (w : Write I S) (p : Option Place) → (eqb (i w.instance) NONE ≡ false → p ≡ place_of k (i w.instance) site) →
       PlacedAt k i site (if c then Some w else None) p
   placed_if true w p h = placed_some w p h
   placed_if false w p h = placed_none p
 
-pub placed_factor : (site state : List ℕ) (place : Option ℕ) (e : Entry) (x : ℕ) → place ≡ place_of n.access_point e.instance site →
+pub placed_factor : (site state : List ℕ) (place : Option Place) (e : Entry) (x : ℕ) → place ≡ place_of n.access_point e.instance site →
     Placed site (outcome_of (gathered place e site state).situation e x) (gathered place e site state).places
 unfolding outcome_of outcome_with gathered to_at from_at held_at
 placed_factor site state place e x p =

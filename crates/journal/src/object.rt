@@ -8,11 +8,11 @@ use records::{FromPart, Record};
 use site::indexed;
 
 // The site record at a place, where there is one.
-#[tactic(auto, unfolding(model::specs::InPlace::part_of))]
+#[tactic(auto, unfolding(model::specs::InPlace::part_of, model::specs::Site::records))]
 pub fn site_part<'s>(site: &IndexedSite<'s, '_>, place: Option<Place>) -> Option<&'s Record>
     ensures { unwrap_or (option_copied result) [] ≡ site_part place site.now }
 {
-    octets::groups(site.bytes()).get(place?.site)
+    site.records().get(place?.site)
 }
 
 // The state record there.

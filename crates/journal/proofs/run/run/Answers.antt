@@ -30,7 +30,7 @@ loop-k-preserved c =
     let l = length_entries a.journal.now in
     let w = c.put_group.ensures ∙ ap₂ (λ k b. with_part 16 k b c.loop-k.answers) t.1 c.answer_bytes.ensures in
     rw (length_push c.loop-k.yielded (i.k, i.e))
-    (done_step a.site.now es (panel a.site.now a.state.now) a.answers.now c.requires.site_len (omega (arith, c.requires.answers_len)) (length c.loop-k.yielded) c.loop-k.state c.loop-k.answers p.new.state c.put_group.new.bytes i.e p.result
+    (done_step a.site.now es (panel a.site.now a.state.now) a.answers.now (omega (arith, c.requires.answers_len)) (length c.loop-k.yielded) c.loop-k.state c.loop-k.answers p.new.state c.put_group.new.bytes i.e p.result
     t.0 t.2 c.loop-k.auto.answers p.ensures.state_after p.ensures.answer w c.loop-k.invariant)
 
 pub returns : goal.returns
@@ -39,5 +39,5 @@ returns c =
     let es = map entry_of (entries a.journal.now) in
     let n = turns es c.into_iter-k-iterator.result (cc) (cc) c.loop-k.yielded _ c.loop-k.yielded_by _ _ c.next.ensures.steps c.in-None.is in
     let l = length_entries a.journal.now in
-    let e = done_end a.site.now es (panel a.site.now a.state.now) a.answers.now c.requires.site_len (omega (arith, c.requires.answers_len)) (length c.loop-k.yielded) c.loop-k.state c.loop-k.answers n c.loop-k.invariant in
+    let e = done_end a.site.now es (panel a.site.now a.state.now) a.answers.now (omega (arith, c.requires.answers_len)) (length c.loop-k.yielded) c.loop-k.state c.loop-k.answers n c.loop-k.invariant in
     record { state_after = e.0; answers_after = e.1 }
