@@ -30,12 +30,13 @@ use Rattle.model.specs.declared.CredentialId.{CredentialId}
 use Rattle.model.specs.declared.Write.{Write}
 use Rattle.model.specs.declared.Outcome.{Outcome}
 
+-- What has state is no empty list.
 kept_there : (s : List ℕ) → kept s ≡ true → missing s ≡ false
 unfolding kept field
 kept_there [] h = cc
 kept_there (x ∷ s) h = refl
 
--- ── what the site's kinds with state have in a state of the site's length
+-- ── a site and its state
 
 module _ (site state : List ℕ) (same_length : length state ≡ state_length site) where
   module _ (k i : ℕ) (has_state : kept_number k ≡ true) where
@@ -50,6 +51,7 @@ module _ (site state : List ℕ) (same_length : length state ≡ state_length si
       is_kept : kept (get_or (records site) p.site []) ≡ true
       is_kept = kept_at k i (get_or (records site) p.site []) has_state (place_found k i p.site site both.0).2
 
+      -- Its place in the state is one of the records of the state.
       in_state : p.state < length state / 32
       in_state = rw both.1 (place_within site state same_length p.site in_site is_kept)
 
@@ -107,14 +109,15 @@ module _ (site state : List ℕ) (same_length : length state ≡ state_length si
       write_at p e = go (eqb i NONE) refl
         where
           go : (c : Bool) → eqb i NONE ≡ c →
-              (panel site (stored (if c then None else place_below (length state / 32) p) b state) ≡ (if c then panel site state else store k i b (panel site state)))
+              (panel site (stored (if c then None else place_below (length state / 32) p) b state)
+              ≡ (if c then panel site state else store k i b (panel site state)))
               × (length (stored (if c then None else place_below (length state / 32) p) b state) ≡ state_length site)
           go true h = (refl, same_length)
           go false h = rw (e h) (store_at (place_of k i site) refl)
 
   -- A write of an outcome, or none.
-  written_at : {I S : Type 0} (k : ℕ) (i : I → ℕ) (b : S → List ℕ) → kept_number k ≡ true → ((s : S) → length (b s) ≡ 32) → (w : Option (Write I S)) (p : Option Place) →
-      PlacedAt k i site w p →
+  written_at : {I S : Type 0} (k : ℕ) (i : I → ℕ) (b : S → List ℕ) → kept_number k ≡ true → ((s : S) → length (b s) ≡ 32) →
+      (w : Option (Write I S)) (p : Option Place) → PlacedAt k i site w p →
       (panel site (written i b w p state) ≡ write_of k i b w (panel site state)) × (length (written i b w p state) ≡ state_length site)
   written_at k i b has_state sized None p h = (refl, same_length)
   written_at k i b has_state sized (Some w) p h = write_at k (i w.instance) has_state (b w.state) (sized w.state) p (h w refl)

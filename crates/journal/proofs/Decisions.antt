@@ -63,8 +63,8 @@ module _ (site state : List ℕ) (e : Entry) (place : Option Place) where
       Placed site (worked_at o place e site state).outcome (worked_at o place e site state).places
   unfolding read_at served_at read_outcome adjust_outcome disable_outcome service_outcome
   placed_worked (Some Factor) p =
-      if_holds (λ (d : Decided). Placed site d.outcome d.places) (point_of (site_part place site)).out_of_service (at_object (unchanged _) None) (served_at place e site state)
-      (placed_unchanged site _ _) (placed_factor site state place e _ p)
+      if_holds (λ (d : Decided). Placed site d.outcome d.places) (point_of (site_part place site)).out_of_service
+      (at_object (unchanged _) None) (served_at place e site state) (placed_unchanged site _ _) (placed_factor site state place e _ p)
   placed_worked (Some SetCount) p = placed_count e.amount p
   placed_worked (Some AdjustCount) p =
       if_holds (λ u. Placed site u (object_places place)) (ltb n.largest_count (adjusted (count (state_part place state)) e.amount)) (refuse n.refused_count) _
@@ -139,7 +139,8 @@ module _ (site state : List ℕ) (same_length : length state ≡ state_length si
     found_placed None q = placed_refused site _ _
 
   -- Of any entry: one of an unknown operation has not the form.
-  as_outcome : (o : Option Operation) → (decided_as o e site state).outcome ≡ outcome_as o (panel site state) e (find (object_kind o) e.instance (panel site state))
+  as_outcome : (o : Option Operation) → (decided_as o e site state).outcome
+      ≡ outcome_as o (panel site state) e (find (object_kind o) e.instance (panel site state))
   unfolding decided_as outcome_as in_form
   as_outcome (Some o) = go (in_form (Some o) e)
     where
@@ -155,7 +156,8 @@ module _ (site state : List ℕ) (same_length : length state ≡ state_length si
   as_placed : (o : Option Operation) → Placed site (decided_as o e site state).outcome (decided_as o e site state).places
   unfolding decided_as in_form
   as_placed (Some o) =
-      if_holds (λ (d : Decided). Placed site d.outcome d.places) (not (in_form (Some o) e)) (at_object (refuse n.refused_form) None) (found_at (Some o) (object_place (Some o) e.instance site) e site state)
+      if_holds (λ (d : Decided). Placed site d.outcome d.places) (not (in_form (Some o) e)) (at_object (refuse n.refused_form) None)
+      (found_at (Some o) (object_place (Some o) e.instance site) e site state)
       (placed_refused site _ _)
       (rw (object_law o e.instance site).0 (found_placed o (place_of (k o) e.instance site) refl))
   as_placed None = placed_refused site _ _

@@ -30,7 +30,8 @@ use Rattle.model.specs.declared.CredentialState.{CredentialState}
 
 module _ (site state : List ℕ) (same_length : length state ≡ state_length site) where
   -- The situation at the panel is what is gathered at the point's place.
-  pub situation_at : (place : Option Place) (e : Entry) → situation_of (panel site state) e (site_part place site, state_part place state) ≡ (gathered place e site state).situation
+  pub situation_at : (place : Option Place) (e : Entry) →
+      situation_of (panel site state) e (site_part place site, state_part place state) ≡ (gathered place e site state).situation
   unfolding situation_of factor_read number_read zone_to zone_from credential_at gathered waiting_at factor_at number_at to_at from_at held_at
   situation_at place e =
       simp (sites_panel site state, seek_at site state same_length)
