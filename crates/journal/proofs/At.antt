@@ -20,7 +20,7 @@ use Rattle.model.proofs.RoundTrip.{length_zone, length_point, length_credential}
 use Rattle.model.proofs.StatePlaces.{place_within, panel_at, panel_stored}
 use Rattle.index.specs.declared.Place.{Place}
 use Rattle.site.specs.Place.{site_place, place_of}
-use Rattle.site.proofs.Places.{place_found, both_places, no_place}
+use Rattle.site.proofs.Places.{place_found, place_both, place_none}
 use Rattle.site.proofs.Panels as Panels
 use Rattle.journal.specs.Places.{site_part, state_part, seek_place, place_below, write_place, stored, written, applied, PlacedAt, Placed}
 use Rattle.journal.specs.declared.Places.{Places}
@@ -43,7 +43,7 @@ module _ (site state : List ℕ) (same_length : length state ≡ state_length si
     -- A record that has a place.
     module _ (p : Place) (e : place_of k i site ≡ Some p) where
       both : (site_place k i site ≡ Some p.site) × (p.state ≡ state_place p.site (records site))
-      both = both_places k i site p e
+      both = place_both k i site p e
 
       in_site : p.site < length (records site)
       in_site = (place_found k i p.site site both.0).0
@@ -78,7 +78,7 @@ module _ (site state : List ℕ) (same_length : length state ≡ state_length si
       where
         go : (p : Option Place) → place_of k i site ≡ p → find k i (panel site state) ≡ (site_part p site, state_part p state)
         go (Some p) e = found p e
-        go None e = Panels.find_nowhere k i site (panel site state) (sites_panel site state) (no_place k i site e)
+        go None e = Panels.find_nowhere k i site (panel site state) (sites_panel site state) (place_none k i site e)
 
     pub seek_at : seek k i (panel site state) ≡ (site_part (seek_place k i site) site, state_part (seek_place k i site) state)
     unfolding seek seek_place
@@ -100,7 +100,7 @@ module _ (site state : List ℕ) (same_length : length state ≡ state_length si
             stored_there p e b l,
             unfold with_part in (simp (length-append, length-take, length-drop) (omega (arith, h, l, same_length))),
           )
-      store_at None e = (sym (Panels.store_nowhere k i site (panel site state) (sites_panel site state) b (no_place k i site e)), same_length)
+      store_at None e = (sym (Panels.store_nowhere k i site (panel site state) (sites_panel site state) b (place_none k i site e)), same_length)
 
       write_at : (p : Option Place) → (eqb i NONE ≡ false → p ≡ place_of k i site) →
           (panel site (stored (write_place i p (length state / 32)) b state) ≡ write k i b (panel site state))
