@@ -193,6 +193,10 @@ module _ (site state : List ℕ) (same_length : length state ≡ state_length si
   unfolding panel
   state_of_panel = state_of_paired state_size (records site) state (same_length ∙ sym (total_state site))
 
+  pub whole_left : (es : List Entry) → all (whole state_size) (after (panel site state) es) ≡ true
+  unfolding panel
+  whole_left es = whole_after state_size size_kept es (panel site state) (whole_paired state_size (records site) state fits)
+
   -- The bytes that entries leave, read as a panel again.
   pub panel_back : (es : List Entry) → panel site (state_of (after (panel site state) es)) ≡ after (panel site state) es
   unfolding panel

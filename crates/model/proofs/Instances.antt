@@ -16,11 +16,11 @@ use Rattle.model.specs.Checks.{time_fits}
 use Rattle.model.specs.Step.{situation_of}
 use Rattle.std.specs.Prelude.{Ok}
 use Rattle.model.specs.Calls.{check_site, check_state}
-use Rattle.model.specs.Lists.{results, Worked, worked_in, begun, worked}
+use Rattle.model.specs.Lists.{results, Worked, begun, worked}
 use Rattle.model.specs.Tally.{standing, tally_of, count_of}
 use Rattle.model.specs.Part.{SelfContained, part_answers, part_state, others_left_out}
 use Rattle.model.specs.Earned.{FittingRule, Earned}
-use Rattle.model.specs.Shifts.{is_shift, following_days, until_midnight, since_midnight, stands_halved, stands_whole, Halved, Rewritten}
+use Rattle.model.specs.Shifts.{is_shift, following_days, until_midnight, since_midnight, stands_halved, stands_whole, Halved}
 use Rattle.model.specs.DayPasses.{times_granted, dates_granted, days_in_site, state_left, last_of, days_taken, different}
 use Rattle.model.specs.WrongTries.{most_tries, tried_of, tries_in, tries_since}
 use Rattle.model.specs.InPlace.{part_of, number_in}
@@ -111,16 +111,16 @@ pub shifts_accepted : check_site one_rule ≡ check_site two_rules
 unfolding shifts AcceptedShifts
 shifts_accepted = accepted_shifts one_rule two_rules refl refl halved
 
-pub shifts_begun : Rewritten one_rule two_rules (fresh one_rule) (fresh two_rules)
-unfolding shifts FreshShifts
-shifts_begun = fresh_shifts one_rule two_rules refl refl halved
+pub shifts_begun : fresh one_rule ≡ fresh two_rules
+unfolding FreshShifts
+shifts_begun = fresh_shifts one_rule two_rules halved
 
 -- So the card is answered alike, on Monday at 22:00 and on Tuesday at 5:59.
 pub shifts_alike :
-    map (λ (w : Worked). w.answer) (worked_in one_rule (fresh one_rule) (run (read 2 79200 55 ∷ read 2 107940 55 ∷ []) ∷ []))
-    ≡ map (λ (w : Worked). w.answer) (worked_in two_rules (fresh two_rules) (run (read 2 79200 55 ∷ read 2 107940 55 ∷ []) ∷ []))
-unfolding SameShifts
-shifts_alike = (same_shifts one_rule two_rules (fresh one_rule) (fresh two_rules) shifts_begun (run (read 2 79200 55 ∷ read 2 107940 55 ∷ []) ∷ [])).1
+    results one_rule (fresh one_rule) (run (read 2 79200 55 ∷ read 2 107940 55 ∷ []) ∷ [])
+    ≡ results two_rules (fresh one_rule) (run (read 2 79200 55 ∷ read 2 107940 55 ∷ []) ∷ [])
+unfolding shifts SameShifts
+shifts_alike = same_shifts one_rule two_rules (fresh one_rule) (run (read 2 79200 55 ∷ read 2 107940 55 ∷ []) ∷ []) refl refl halved
 
 -- The guest's days left and the dates on which the guest was granted come to the three days of the pass: the times of the grants never fall.
 pub guest_admitted : (state_left 5 guest).days + different (dates_granted 5 guest) ≡ days_in_site 5 guest

@@ -1,24 +1,27 @@
 -- Sites that differ in their shifts alone: their rules say the same, so that every list of runs is answered alike.
-use Rattle.std.specs.Prelude.{if◌then◌else◌}
-use Prim.Native.Nat.{ℕ}
+use Rattle.std.specs.Prelude.{if◌then◌else◌, Option, Some, None, Ok}
+use Prim.Native.Nat.{ℕ, ◌*◌}
+use native.Mathlib.Omega.{arith}
 use mathlib.Core.Path.{◌≡◌, refl, sym, ◌∙◌, ap}
-use mathlib.Core.List.{List, [], ◌∷◌, map}
+use mathlib.Core.List.{List, [], ◌∷◌, map, flatten}
 use mathlib.Core.Bool.{Bool, true, false, not, ◌&&◌, ◌||◌, or-true, or_self, and-or_distrib_left, false≢true}
 use lib.Dec.{eqb}
-use borrow.Author.Tests.{eqb-true, ne_eqb}
+use lib.ListN.{length, take, drop}
+use borrow.Author.Tests.{eqb-true, ne_eqb, not-false}
 use Rattle.octets.specs.Octets.{same}
 use Rattle.octets.proofs.Laws.{same_eq}
-use Rattle.model.specs.Words.{keep, any, all}
+use Rattle.model.specs.Words.{missing, keep, any, all}
 use Rattle.model.specs.Numbers as n
 use Rattle.model.specs.Numbers.{NONE}
-use Rattle.model.specs.Site.{kind, records, negative, is_at, find_in}
-use Rattle.model.specs.Accept.{in_range}
-use Rattle.model.specs.State.{Panel, panel, sites, find, fresh}
-use Rattle.model.specs.Entry.{entry_of, answer_bytes}
+use Rattle.model.specs.Site.{kind, record_kind, records, negative, is_at, find_in}
+use Rattle.model.specs.Accept.{in_range, exists, none_or_exists}
+use Rattle.model.specs.State.{Pair, Panel, kept, state_size, state_length, paired, panel, sites, state_of, find, point_state_of, credential_state_of, fresh_record, fresh, point_well, credential_well, record_well_as, record_well, well_formed}
+use Rattle.model.specs.Entry.{entry_of, entries, answer_bytes}
 use Rattle.model.specs.Checks.{identifying, confirming, factor_for, enabled_rule, location_fits, crosses_midnight, time_fits, verdict}
-use Rattle.model.specs.Step.{entry_outcome, apply, panels, after, answers}
-use Rattle.model.specs.Lists.{state_after, Worked}
-use Rattle.model.specs.Shifts.{is_rule, not_rule, is_shift, until_midnight, since_midnight, stands, stands_halved, is_half, stands_whole, Halved, others, Rewritten}
+use Rattle.model.specs.Step.{entry_outcome, apply, after, answers}
+use Rattle.model.specs.Calls.{Returned, is_worked, check_site, fresh_returned, check_state, run_result, run_returned, run_journal}
+use Rattle.model.specs.Lists.{Run, run_on, results}
+use Rattle.model.specs.Shifts.{is_rule, not_rule, is_shift, until_midnight, since_midnight, stands, stands_halved, is_half, stands_whole, Halved}
 use Rattle.model.specs.Demands.{SameShifts, FreshShifts}
 use Rattle.model.specs.declared.ZoneId.{ZoneId}
 use Rattle.model.specs.declared.PointId.{PointId}
@@ -26,11 +29,13 @@ use Rattle.model.specs.declared.CredentialId.{CredentialId}
 use Rattle.model.specs.declared.RightsId.{RightsId}
 use Rattle.model.specs.declared.Entry.{Entry}
 use Rattle.model.specs.declared.Outcome.{Outcome}
+use Rattle.model.specs.declared.RecordKind.{RecordKind}
+use Rattle.model.specs.declared.RecordKind.TheVariants.{OfZone, OfPoint, OfRule, OfCredential, OfFactor}
 use Rattle.model.proofs.Laws.{and_left, and_right, kind_at, only, only_apply, find_only, sites_only, find_keep, sites_apply}
 use Rattle.model.proofs.SameOutcome.{Agree, outcome_agree}
-use Rattle.model.proofs.Flat.{kept_number, sites_panel, fresh_panel, only_fresh, panel_fresh}
-use Rattle.model.proofs.Runs.{site_accepted, worked_at, list_panel, list_worked}
-use Rattle.model.proofs.KeptWell.{run_entries, state_taken, taken_state, list_well, fresh_taken}
+use Rattle.model.proofs.Flat.{kept_number, whole, whole_left, sites_panel}
+use Rattle.model.proofs.Runs.{site_accepted}
+use Rattle.model.proofs.Entries.{lengths, run_accepted}
 use Rattle.model.proofs.Shifts.{whole_rule, Like, until_like, since_like, fits_halves, shift_rule}
 
 -- ── tests of records that a shift passes exactly when one of its halves does
@@ -239,66 +244,165 @@ same_list (e ∷ es) ps qs b =
     (let rest = same_list es (apply (entry_outcome qs e) ps) (apply (entry_outcome qs e) qs) (but_rules_apply (entry_outcome qs e) ps qs b) in
     (ap (λ rs. (entry_outcome qs e).answer ∷ rs) rest.0, rest.1))
 
--- ── lists of runs
+-- ── the same state
 
--- The answers of worked entries.
-worked_answers : (bs : List (List ℕ)) (ps : Panel) → map (λ (w : Worked). w.answer) (worked_at ps bs) ≡ map answer_bytes (answers ps (map entry_of bs))
-unfolding worked_at panels answers
-worked_answers [] ps = refl
-worked_answers (b ∷ bs) ps = ap (λ rs. answer_bytes (entry_outcome ps (entry_of b)).answer ∷ rs) (worked_answers bs (apply (entry_outcome ps (entry_of b)) ps))
+-- A rule has none.
+rule_none : (s : List ℕ) → not_rule s ≡ false → kept s ≡ false
+unfolding kept
+rule_none s h = let k : kind s ≡ 3 = eqb-true (kind s) 3 (not-false _ h) in rw k
+
+keep_others : (ss : List (List ℕ)) → keep kept (keep not_rule ss) ≡ keep kept ss
+keep_others [] = refl
+keep_others (s ∷ ss) = go (not_rule s) refl (keep_others ss)
+  where
+    go : (c : Bool) → not_rule s ≡ c → keep kept (keep not_rule ss) ≡ keep kept ss → keep kept (if c then s ∷ keep not_rule ss else keep not_rule ss) ≡ keep kept (s ∷ ss)
+    go true e ih = rw ih
+    go false e ih = rw (rule_none s e, ih)
+
+-- So the others have the whole state, and a panel of the others holds the same bytes.
+only_paired : (ss : List (List ℕ)) (state : List ℕ) → only not_rule (paired state_size ss state) ≡ paired state_size (keep not_rule ss) state
+unfolding paired state_size
+only_paired [] state = refl
+only_paired (s ∷ ss) state = go (not_rule s) refl (only_paired ss (drop (state_size s) state))
+  where
+    go : (c : Bool) → not_rule s ≡ c → only not_rule (paired state_size ss (drop (state_size s) state)) ≡ paired state_size (keep not_rule ss) (drop (state_size s) state) →
+        (if c then (s, take (state_size s) state) ∷ only not_rule (paired state_size ss (drop (state_size s) state)) else only not_rule (paired state_size ss (drop (state_size s) state)))
+        ≡ paired state_size (if c then s ∷ keep not_rule ss else keep not_rule ss) state
+    go true e ih = ap (λ ps. (s, take (state_size s) state) ∷ ps) ih
+    go false e ih = ih ∙ ap (λ c. paired state_size (keep not_rule ss) (drop (if c then 32 else 0) state)) (rule_none s e)
+
+state_only : (ps : Panel) → all (whole state_size) ps ≡ true → state_of (only not_rule ps) ≡ state_of ps
+unfolding state_of flatten state_size
+state_only [] a = refl
+state_only (x ∷ xs) a = go (not_rule x.0) refl (state_only xs (and_right (whole state_size x) (all (whole state_size) xs) a))
+  where
+    empty : (t : List ℕ) → eqb (length t) 0 ≡ true → t ≡ []
+    empty [] h = refl
+    empty (b ∷ t) h = absurd (omega (arith, eqb-true (length (b ∷ t)) 0 h))
+
+    go : (c : Bool) → not_rule x.0 ≡ c → state_of (only not_rule xs) ≡ state_of xs → state_of (if c then x ∷ only not_rule xs else only not_rule xs) ≡ state_of (x ∷ xs)
+    go true e ih = rw ih
+    go false e ih = rw (empty x.1 (rw (rule_none x.0 e) at (and_left (whole state_size x) (all (whole state_size) xs) a)), ih)
+
+-- A rule is well formed with no record.
+rule_well : (ss : List (List ℕ)) (x : Pair) → not_rule x.0 ≡ false → record_well ss x ≡ true
+unfolding record_well
+rule_well ss x h = let k : kind x.0 ≡ 3 = eqb-true (kind x.0) 3 (not-false _ h) in rw k
+
+well_others : (ss : List (List ℕ)) (ps : Panel) → all (record_well ss) ps ≡ all (record_well ss) (only not_rule ps)
+well_others ss [] = refl
+well_others ss (x ∷ xs) = go (not_rule x.0) refl (well_others ss xs)
+  where
+    go : (c : Bool) → not_rule x.0 ≡ c → all (record_well ss) xs ≡ all (record_well ss) (only not_rule xs) →
+        all (record_well ss) (x ∷ xs) ≡ all (record_well ss) (if c then x ∷ only not_rule xs else only not_rule xs)
+    go true e ih = rw ih
+    go false e ih = rw (rule_well ss x e, ih)
+
+module _ (ss ts : List (List ℕ)) (h : Halved ss ts) where
+  -- What is of another kind than a rule is there in both.
+  pub exists_same : (k i : ℕ) → eqb k n.access_rule ≡ false → exists ss k i ≡ exists ts k i
+  unfolding exists
+  exists_same k i e =
+      let among : (rs : List (List ℕ)) → find_in (is_at k i) (keep not_rule rs) ≡ find_in (is_at k i) rs =
+      λ rs. find_keep not_rule (is_at k i) rs (λ a. kind_not_rule k e _ (kind_at k i _ a)) in
+      ap (λ s. not (missing s)) (sym (among ss) ∙ ap (find_in (is_at k i)) h.others ∙ among ts)
+
+  -- So a record is well formed in both or in neither.
+  record_same : (x : Pair) → record_well ss x ≡ record_well ts x
+  unfolding record_well point_well credential_well none_or_exists
+  record_same x = go (record_kind x.0)
+    where
+      go : (k : Option RecordKind) → record_well_as k ss x ≡ record_well_as k ts x
+      go (Some OfZone) = refl
+      go (Some OfPoint) = rw (exists_same n.access_credential (point_state_of x.1).waiting_credential.0 refl)
+      go (Some OfRule) = refl
+      go (Some OfCredential) = rw (exists_same n.access_zone (credential_state_of x.1).zone.0 refl, exists_same n.access_point (credential_state_of x.1).last_point.0 refl)
+      go (Some OfFactor) = refl
+      go None = refl
+
+  records_same : (ps : Panel) → all (record_well ss) ps ≡ all (record_well ts) ps
+  records_same [] = refl
+  records_same (x ∷ xs) = rw (record_same x, records_same xs)
+
+-- ── runs on the same state
+
+module _ (site other : List ℕ) (h : Halved (records site) (records other)) where
+  length_same : state_length site ≡ state_length other
+  unfolding state_length
+  length_same = ap (λ ss. 32 * length ss) (sym (keep_others (records site)) ∙ ap (keep kept) h.others ∙ keep_others (records other))
+
+  module _ (state : List ℕ) where
+    panel_same : only not_rule (panel site state) ≡ only not_rule (panel other state)
+    unfolding panel
+    panel_same = only_paired (records site) state ∙ ap (λ ss. paired state_size ss state) h.others ∙ sym (only_paired (records other) state)
+
+    well_same : well_formed site state ≡ well_formed other state
+    unfolding well_formed
+    well_same =
+        well_others (records site) (panel site state) ∙ records_same (records site) (records other) h (only not_rule (panel site state))
+        ∙ ap (all (record_well (records other))) panel_same ∙ sym (well_others (records other) (panel other state))
+
+    module _ (accepts : check_site site ≡ Ok tt) (other_accepts : check_site other ≡ Ok tt) (r : Run) where
+      returned_same : run_returned site state r.journal r.answers ≡ run_returned other state r.journal r.answers
+      unfolding run_returned check_state fresh_returned
+      returned_same = rw (accepts, other_accepts, length_same, well_same)
+
+      entered : List Entry
+      entered = map entry_of (entries r.journal)
+
+      list_same : (answers (panel site state) entered ≡ answers (panel other state) entered)
+          × (only not_rule (after (panel site state) entered) ≡ only not_rule (after (panel other state) entered))
+      list_same =
+          same_list entered (panel site state) (panel other state)
+          (record {
+            same_others = panel_same;
+            same_rules = λ first second point to time.
+                rw (sites_panel site state, sites_panel other state)
+                (verdict_same first second point to time (records site) (records other) (site_accepted site accepts).fields_in_range h);
+          })
+
+      state_same : length state ≡ state_length site → state_of (after (panel site state) entered) ≡ state_of (after (panel other state) entered)
+      state_same l =
+          sym (state_only (after (panel site state) entered) (whole_left site state l entered)) ∙ ap state_of list_same.1
+          ∙ state_only (after (panel other state) entered) (whole_left other state (l ∙ length_same) entered)
+
+      as_long : is_worked (run_returned other state r.journal r.answers) ≡ true → length state ≡ state_length site
+      unfolding run_on run_journal
+      as_long w = (lengths other state (run_accepted other state r w).fresh_worked).1 ∙ sym length_same
+
+      run_same : run_on site state r ≡ run_on other state r
+      unfolding run_on run_journal entered
+      run_same = rw (returned_same, list_same.0) (go (is_worked (run_returned other state r.journal r.answers)) refl)
+        where
+          x : Returned
+          x = run_returned other state r.journal r.answers
+
+          bytes : List ℕ
+          bytes = if is_worked x then flatten (map answer_bytes (answers (panel other state) entered)) else r.answers
+
+          go : (c : Bool) → is_worked x ≡ c →
+              run_result x (if c then state_of (after (panel site state) entered) else state) bytes ≡ run_result x (if c then state_of (after (panel other state) entered) else state) bytes
+          go true w = ap (λ t. run_result x t bytes) (state_same (as_long w))
+          go false w = refl
 
 pub same_shifts : SameShifts
-unfolding SameShifts others
-same_shifts site other state beside w rs =
-    let s = state_taken site state w.taken in
-    let o = state_taken other beside w.taken_beside in
-    let whole = site_accepted site s.site_accepts in
-    let one = list_well site rs state s in
-    let two = list_well other rs beside o in
-    let start = but_rules site other state beside whole.fields_in_range w in
-    let list = same_list (map entry_of (run_entries rs)) (panel site state) (panel other beside) start in (
-      one.returned ∙ sym two.returned,
-      rw (
-        list_worked site rs state s.as_long,
-        list_worked other rs beside o.as_long,
-        one.entered,
-        two.entered,
-        worked_answers (run_entries rs) (panel site state),
-        worked_answers (run_entries rs) (panel other beside),
-      )
-          (ap (map answer_bytes) list.0),
-      record {
-        taken = taken_state site (state_after site state rs) one.left;
-        taken_beside = taken_state other (state_after other beside rs) two.left;
-        shifts = w.shifts;
-        states =
-            rw (
-              list_panel site rs state s.as_long,
-              list_panel other rs beside o.as_long,
-              one.entered,
-              two.entered,
-            )
-            list.1;
-      },
-    )
+unfolding SameShifts results
+same_shifts site other state [] a b h = refl
+same_shifts site other state (r ∷ rs) a b h =
+    let e = run_same site other h state a b r in
+    rw e (ap (λ xs. run_on other state r ∷ xs) (same_shifts site other (run_on other state r).state rs a b h))
+
+-- The fresh record of a rule is empty.
+fresh_others : (ss : List (List ℕ)) → flatten (map fresh_record (keep not_rule ss)) ≡ flatten (map fresh_record ss)
+unfolding fresh_record flatten
+fresh_others [] = refl
+fresh_others (s ∷ ss) = go (not_rule s) refl (fresh_others ss)
   where
-    but_rules : (site other state beside : List ℕ) → all in_range (records site) ≡ true → Rewritten site other state beside
-        → ButRules (panel site state) (panel other beside)
-    but_rules site other state beside r w =
-        record {
-          same_others = w.states;
-          same_rules = λ first second point to time.
-              rw (sites_panel site state, sites_panel other beside) (verdict_same first second point to time (records site) (records other) r w.shifts);
-        }
+    go : (c : Bool) → not_rule s ≡ c → flatten (map fresh_record (keep not_rule ss)) ≡ flatten (map fresh_record ss) →
+        flatten (map fresh_record (if c then s ∷ keep not_rule ss else keep not_rule ss)) ≡ flatten (map fresh_record (s ∷ ss))
+    go true e ih = rw ih
+    go false e ih = let k : kind s ≡ 3 = eqb-true (kind s) 3 (not-false _ e) in rw k ih
 
 pub fresh_shifts : FreshShifts
-unfolding FreshShifts others
-fresh_shifts site other s o d =
-    record {
-      taken = taken_state site (fresh site) (fresh_taken site s);
-      taken_beside = taken_state other (fresh other) (fresh_taken other o);
-      shifts = d;
-      states =
-          rw (panel_fresh site, panel_fresh other)
-          (only_fresh not_rule (records site) ∙ ap fresh_panel d.others ∙ sym (only_fresh not_rule (records other)));
-    }
+unfolding FreshShifts fresh
+fresh_shifts site other h = sym (fresh_others (records site)) ∙ ap (λ ss. flatten (map fresh_record ss)) h.others ∙ fresh_others (records other)

@@ -10,9 +10,9 @@ use lib.ListN.{length, drop, length-drop}
 use lib.Seq.{length-take-le}
 use borrow.Author.Tests.{eqb-true, ne_eqb}
 use Rattle.octets.specs.Octets.{groups}
-use Rattle.model.specs.Words.{keep, any, all, missing}
+use Rattle.model.specs.Words.{keep, any, all}
 use Rattle.model.specs.Numbers as n
-use Rattle.model.specs.Site.{kind, record_kind, instance, point_of, everywhere, location_kind, location, is_at, find_in, records}
+use Rattle.model.specs.Site.{kind, record_kind, instance, point_of, everywhere, location_kind, location, records}
 use Rattle.model.specs.Accept.{real, in_range_as, in_range, twins, twice, exists, none_or_exists, names_exist_as, names_exist}
 use Rattle.model.specs.Calls.{Returned, check_site}
 use Rattle.model.specs.Shifts.{is_rule, not_rule, is_shift, until_midnight, since_midnight, Halved}
@@ -20,10 +20,10 @@ use Rattle.model.specs.Demands.{returns_other, AcceptedShifts}
 use Rattle.model.specs.declared.RecordKind.{RecordKind}
 use Rattle.model.specs.declared.RecordKind.TheVariants.{OfZone, OfPoint, OfRule, OfCredential, OfFactor}
 use Rattle.model.specs.declared.Refusal.TheVariants.{SiteLength, SiteField, SiteTwice, SiteMissing}
-use Rattle.model.proofs.Laws.{and_left, and_right, kind_at, find_keep, any_keep}
+use Rattle.model.proofs.Laws.{and_left, and_right, any_keep}
 use Rattle.model.proofs.Flat.{Sized}
 use Rattle.model.proofs.Shifts.{RuleRange, rule_range, rule_location, whole_rule, Like, until_like, since_like, range_halves, shift_rule}
-use Rattle.model.proofs.SameShifts.{kind_not_rule, any_same}
+use Rattle.model.proofs.SameShifts.{any_same, exists_same}
 
 -- ── refusal 2
 
@@ -88,14 +88,6 @@ twice_other (s ∷ ss) = go (is_rule s) refl (twice_other ss)
 -- ── refusal 4
 
 module _ (ss ts : List (List ℕ)) (h : Halved ss ts) where
-  -- What is of another kind than a rule is there in both.
-  exists_same : (k i : ℕ) → eqb k n.access_rule ≡ false → exists ss k i ≡ exists ts k i
-  unfolding exists
-  exists_same k i e =
-      let among : (rs : List (List ℕ)) → find_in (is_at k i) (keep not_rule rs) ≡ find_in (is_at k i) rs =
-      λ rs. find_keep not_rule (is_at k i) rs (λ a. kind_not_rule k e _ (kind_at k i _ a)) in
-      ap (λ s. not (missing s)) (sym (among ss) ∙ ap (find_in (is_at k i)) h.others ∙ among ts)
-
   -- So what a record in range names is: a rule names a zone or a point.
   names_same : (s : List ℕ) → in_range s ≡ true → names_exist ss s ≡ names_exist ts s
   unfolding names_exist none_or_exists in_range
@@ -104,14 +96,14 @@ module _ (ss ts : List (List ℕ)) (h : Halved ss ts) where
       place : (c : Bool) → everywhere s ≡ c → RuleRange s → c || exists ss (location_kind s) (location s) ≡ c || exists ts (location_kind s) (location s)
       place true e p = refl
       place false e p =
-          exists_same (location_kind s) (location s) (ne_eqb (location_kind s) n.access_rule (λ k. omega (arith, (rule_location s p e).1)))
+          exists_same ss ts h (location_kind s) (location s) (ne_eqb (location_kind s) n.access_rule (λ k. omega (arith, (rule_location s p e).1)))
 
       go : (k : Option RecordKind) → in_range_as k s ≡ true → names_exist_as k ss s ≡ names_exist_as k ts s
       go (Some OfZone) r = refl
-      go (Some OfPoint) r = rw (exists_same n.access_zone (point_of s).zone_to.0 refl, exists_same n.access_zone (point_of s).zone_from.0 refl)
+      go (Some OfPoint) r = rw (exists_same ss ts h n.access_zone (point_of s).zone_to.0 refl, exists_same ss ts h n.access_zone (point_of s).zone_from.0 refl)
       go (Some OfRule) r = place (everywhere s) refl (rule_range s r)
       go (Some OfCredential) r = refl
-      go (Some OfFactor) r = exists_same n.access_credential (instance s) refl
+      go (Some OfFactor) r = exists_same ss ts h n.access_credential (instance s) refl
       go None r = refl
 
 -- A half names what its shift does.

@@ -12,11 +12,11 @@ use Rattle.model.specs.Entry.{entry_of, entries, operation_of, answer_bytes}
 use Rattle.model.specs.Checks.{time_fits}
 use Rattle.model.specs.Step.{no_answer}
 use Rattle.model.specs.Calls.{Returned, number, is_worked, check_site, fresh_state, check_state}
-use Rattle.model.specs.Lists.{Run, run_on, state_after, results, returns, Worked, answers_in, worked_in, event_in, refusal_in, credential_in, History, begun, ended, worked, first_of}
+use Rattle.model.specs.Lists.{Run, run_on, results, returns, Worked, answers_in, worked_in, event_in, refusal_in, credential_in, History, begun, ended, worked, first_of}
 use Rattle.model.specs.Tally.{standing, tally_of, count_of}
 use Rattle.model.specs.Part.{Part, SelfContained, part_records, part_entries, part_answers, part_state, others_left_out}
 use Rattle.model.specs.Earned.{Earned}
-use Rattle.model.specs.Shifts.{is_shift, until_midnight, since_midnight, Halved, Rewritten}
+use Rattle.model.specs.Shifts.{is_shift, until_midnight, since_midnight, Halved}
 use Rattle.model.specs.DayPasses.{is_grant_of, times_granted, dates_granted, days_in_site, state_left, last_of, days_taken, never_fall, different}
 use Rattle.model.specs.WrongTries.{tried_of, most_tries, tries_in, tries_since}
 use Rattle.model.specs.InPlace.{part_of, Reads}
@@ -95,20 +95,16 @@ ShiftHalves =
     × (in_range (until_midnight s) && not (is_shift (until_midnight s)) ≡ true)
     × (in_range (since_midnight s) && not (is_shift (since_midnight s)) ≡ true)
 
--- "so estates may rewrite their old pairs of rules and get the same decisions": two sites that differ in that alone, with states that are the same but
--- for it, return the same to every list of runs, with the same answers, and leave such states again.
+-- "so estates may rewrite their old pairs of rules and get the same decisions": two accepted sites that differ in that alone give each run of every list the
+-- same on the same state, which has no record of a rule (job 8): what it returns, the answers, and the state that it leaves.
 unfoldable pub SameShifts : Type 0
 SameShifts =
-    (site other state beside : List ℕ) → Rewritten site other state beside → (rs : List Run) →
-    (returns site state rs ≡ returns other beside rs)
-    × (map (λ (w : Worked). w.answer) (worked_in site state rs) ≡ map (λ (w : Worked). w.answer) (worked_in other beside rs))
-    × Rewritten site other (state_after site state rs) (state_after other beside rs)
+    (site other state : List ℕ) (rs : List Run) → check_site site ≡ Ok tt → check_site other ≡ Ok tt → Halved (records site) (records other) →
+    results site state rs ≡ results other state rs
 
--- Their fresh states are such states.
+-- Their fresh states are the same.
 unfoldable pub FreshShifts : Type 0
-FreshShifts =
-    (site other : List ℕ) → check_site site ≡ Ok tt → check_site other ≡ Ok tt → Halved (records site) (records other) →
-    Rewritten site other (fresh site) (fresh other)
+FreshShifts = (site other : List ℕ) → Halved (records site) (records other) → fresh site ≡ fresh other
 
 -- And the check of one returns what that of the other does, unless one of them is turned back for its length.
 unfoldable pub AcceptedShifts : Type 0

@@ -1,12 +1,10 @@
 -- A shift across midnight, and the two rules that it had to be written as before (beyond document 02).
-use Rattle.std.specs.Prelude.{ℕ, ◌+◌, ◌*◌, ◌/◌, ◌%◌, ◌≡◌, List, Bool, true, not, ◌&&◌, ◌||◌, eqb, Ok}
+use Rattle.std.specs.Prelude.{ℕ, ◌+◌, ◌*◌, ◌/◌, ◌%◌, ◌≡◌, List, Bool, true, not, ◌&&◌, ◌||◌, eqb}
 use Rattle.octets.specs.Octets.{put, same}
 use Rattle.model.specs.Words.{keep, any, all}
 use Rattle.model.specs.Numbers as n
-use Rattle.model.specs.Site.{kind, weekdays, records}
-use Rattle.model.specs.State.{Pair, Panel, panel}
+use Rattle.model.specs.Site.{kind, weekdays}
 use Rattle.model.specs.Checks.{crosses_midnight}
-use Rattle.model.specs.Calls.{check_state}
 
 -- A rule; a record of another kind.
 abbrev pub is_rule : List ℕ → Bool
@@ -54,14 +52,3 @@ pub record Halved (ss ts : List (List ℕ)) : Type 0 where
   pub others : keep not_rule ss ≡ keep not_rule ts
   pub halved : all (stands_halved ts) ss ≡ true
   pub whole : all (stands_whole ss) ts ≡ true
-
--- All records of a panel but rules, with their state records.
-unfoldable pub others : Panel → Panel
-others ps = keep (λ (x : Pair). not_rule x.0) ps
-
--- Two such sites with states that a run takes, which are the same beside all records but rules.
-pub record Rewritten (site other state beside : List ℕ) : Type 0 where
-  pub taken : check_state site state ≡ Ok tt
-  pub taken_beside : check_state other beside ≡ Ok tt
-  pub shifts : Halved (records site) (records other)
-  pub states : others (panel site state) ≡ others (panel other beside)
