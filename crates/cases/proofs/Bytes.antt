@@ -98,7 +98,7 @@ unfoldable pub from_state : List (List ℕ) → List (List ℕ) → List (List �
 from_state records states journal =
     run_journal (flatten records) (flatten states) (flatten journal) (zeros (length journal * 16))
 
--- The same from fresh; the state's buffer holds the first bytes of the site, as many as the state has.
+-- As many bytes as the state has, the first of the site, to be made fresh; a journal of entries run from fresh.
 unfoldable pub buffer : List ℕ → List ℕ
 buffer site = take (state_length site) site
 

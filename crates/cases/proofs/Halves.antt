@@ -149,7 +149,7 @@ pub record Differing : Type 0 where
   states_differing :
       map (λ (w : Worked). event_in w.answer) (worked_in one_rule.site (put 50 1 1 (blank one_rule)) one_rule.runs)
       ≡ 158 ∷ 158 ∷ 158 ∷ 158 ∷ 158 ∷ []
-  -- A state that no run takes, of the one site and of the other; beside all records it is the fresh one.
+  -- A state that no run takes, of the one site and of the other; its records are those of the fresh one.
   state_not_taken : returned one_rule (marked one_rule) ++ returned two_rules (blank two_rules) ≡ 5 ∷ 5 ∷ 5 ∷ 0 ∷ 10 ∷ 0 ∷ []
   other_not_taken : returned one_rule (blank one_rule) ++ returned two_rules (marked two_rules) ≡ 0 ∷ 10 ∷ 0 ∷ 5 ∷ 5 ∷ 5 ∷ []
   same_beside :
