@@ -2,9 +2,10 @@
 -- fields, in the order of document 01.
 use Prim.Native.Nat.{ℕ, ◌+◌, ◌*◌, ◌/◌}
 use mathlib.Core.List.{List, [], ◌∷◌, ◌++◌, map, flatten}
-use lib.ListN.{length}
+use lib.ListN.{length, take}
 use Rattle.octets.specs.Octets.{field, digits, groups, put}
 use Rattle.model.specs.Words.{zeros}
+use Rattle.model.specs.State.{state_length}
 use Rattle.model.specs.Calls.{RunResult, fresh_state, run_journal}
 use Rattle.model.proofs.Open.{definitions}
 use Rattle.cases.proofs.Change.{Field, with_fields}
@@ -75,12 +76,13 @@ errs time value = entry 1 1 time 2 0 value
 
 -- ── runs
 
--- The site of point 2, credential 5 and its two factors, with fields changed of the point, the credential, both factors; its state.
+-- The site of point 2, credential 5 and its two factors, with fields changed of the point, the credential, both factors; its state, in which factors have
+-- no record.
 unfoldable pub site : List Field → List Field → List Field → List (List ℕ)
 site ds ps fs = with_fields ds door ∷ with_fields ps person ∷ with_fields fs card ∷ with_fields fs pin ∷ []
 
 unfoldable pub state : List Field → List Field → List (List ℕ)
-state ds ps = with_fields ds door_state ∷ with_fields ps person_state ∷ zeros 32 ∷ zeros 32 ∷ []
+state ds ps = with_fields ds door_state ∷ with_fields ps person_state ∷ []
 
 -- The same where point 2 leads from zone 8 into zone 7, with fields changed of both zones, the point and the credential; its state, with
 -- both counts, and credential 5 in zone 7 since 1000.
@@ -91,14 +93,18 @@ passing hs ys ds ps =
 unfoldable pub inside : ℕ → ℕ → List Field → List (List ℕ)
 inside to from ps = counted to ∷ counted from ∷ state [] ((8, 4, 7) ∷ (12, 4, 1000) ∷ ps)
 
--- A journal of entries run on a site of records, from a state of records and from fresh.
+-- A journal of entries run on a site of records, from a state of records.
 unfoldable pub from_state : List (List ℕ) → List (List ℕ) → List (List ℕ) → RunResult
 from_state records states journal =
     run_journal (flatten records) (flatten states) (flatten journal) (zeros (length journal * 16))
 
+-- As many bytes as the state has, the first of the site, to be made fresh; a journal of entries run from fresh.
+unfoldable pub buffer : List ℕ → List ℕ
+buffer site = take (state_length site) site
+
 unfoldable pub from_new : List (List ℕ) → List (List ℕ) → RunResult
 from_new records journal =
-    run_journal (flatten records) (fresh_state (flatten records) (flatten records)).state (flatten journal) (zeros (length journal * 16))
+    run_journal (flatten records) (fresh_state (flatten records) (buffer (flatten records))).state (flatten journal) (zeros (length journal * 16))
 
 -- The answers, as numbers of 16 bytes; their events alone; the answers and then the state records, as numbers of 32 bytes.
 unfoldable pub answered : RunResult → List ℕ
@@ -112,5 +118,5 @@ worked r = answered r ++ map (field 0 32) (groups 32 (length r.state / 32) r.sta
 
 -- One name that opens them, and the definitions.
 unfoldable pub bytes : Unit {0}
-unfolding definitions put with_fields door hall yard rule person card pin door_state person_state counted entry shows types errs site state passing inside from_state from_new answered told worked
+unfolding definitions put with_fields door hall yard rule person card pin door_state person_state counted entry shows types errs site state passing inside from_state buffer from_new answered told worked
 bytes = tt

@@ -4,7 +4,6 @@ use Prim.Native.Nat.{ℕ}
 use mathlib.Core.Path.{◌≡◌, refl}
 use mathlib.Core.List.{List, [], ◌∷◌, ◌++◌, map}
 use Rattle.octets.specs.Octets.{field}
-use Rattle.model.specs.Words.{zeros}
 use Rattle.model.specs.Calls.{RunResult}
 use Rattle.cases.proofs.Change.{Field, with_fields}
 use Rattle.cases.proofs.Fields.{flags, mode, factors_wanted, first_rights, days_given, absentee, days, last_use, last_grant_field}
@@ -15,9 +14,9 @@ use Rattle.cases.proofs.Rules.{on}
 unfoldable pub hall : List Field → List Field → List (List ℕ)
 hall ds ps = with_fields (on 0x7F 540 1080) rule ∷ site (mode 0 ∷ ds) (first_rights 9 ∷ ps) []
 
--- The events of a run, then the days left and the last grant of credential 5, which stand at 2 and 24 of the third state record.
+-- The events of a run, then the days left and the last grant of credential 5, which stand at 2 and 24 of the second state record.
 unfoldable pub left : RunResult → List ℕ
-left r = told r ++ (field 66 2 r.state ∷ field 88 4 r.state ∷ [])
+left r = told r ++ (field 34 2 r.state ∷ field 56 4 r.state ∷ [])
 
 -- A pass of these days, from fresh: its card at these times at the hall, and at a point that grants at all hours.
 unfoldable pub visits : ℕ → List ℕ → List ℕ
@@ -28,7 +27,7 @@ passes given times = left (from_new (hall (mode 1 ∷ []) (days_given given ∷ 
 
 -- The card at these times at the hall where fields of the credential are changed, and of its state, which has 8 days and the last grant at 650.
 unfoldable pub returns : List Field → List Field → List ℕ → List ℕ
-returns ps ss times = left (from_state (hall [] ps) (zeros 32 ∷ state [] ss) (map (λ time. shows time 0x55) times))
+returns ps ss times = left (from_state (hall [] ps) (state [] ss) (map (λ time. shows time 0x55) times))
 
 pub record Congress : Type 0 where
   -- "Congress guests with three-day passes try the door before it opens, are denied, and are let in later that day": at 8:00 and at 10:00.
@@ -121,7 +120,7 @@ held = record { older = refl; no_grant = refl; ahead = refl; last_day = refl; ab
 
 -- A journal at the hall where fields of the point and the credential are changed.
 unfoldable pub worked : List Field → List Field → List (List ℕ) → List ℕ
-worked ds ps journal = left (from_state (hall ds ps) (zeros 32 ∷ state [] []) journal)
+worked ds ps journal = left (from_state (hall ds ps) (state [] []) journal)
 
 pub record Entries : Type 0 where
   -- "set by each grant": not by event 0, where a second factor is awaited, but by the second factor, whose date counts.

@@ -34,13 +34,13 @@ pub record Step2 : Type 0 where
       worked (from_state two waits (types 1030 0x66 ∷ []))
       ≡ 0x0001_01_00_0000000B_00000005_00000000
       ∷ 0x0000000B_00_00_0000_000003E8_00000384_003FFFFF_000003E8_0000000000000000
-      ∷ 0x0008_0008_00000406_003FFFFF_00000258_0001_00_00_00000002_00000406_00000000 ∷ 0 ∷ 0 ∷ []
+      ∷ 0x0008_0008_00000406_003FFFFF_00000258_0001_00_00_00000002_00000406_00000000 ∷ []
   -- After 31 seconds. "Either ends the wait."
   late :
       worked (from_state two waits (types 1031 0x66 ∷ []))
       ≡ 0x0083_01_00_0000000B_00000005_00000000
       ∷ 0x0000000B_00_00_0000_000003E8_00000384_003FFFFF_000003E8_0000000000000000
-      ∷ 0x0009_0008_00000407_003FFFFF_00000258_0083_00_00_00000002_0000028A_00000000 ∷ 0 ∷ 0 ∷ []
+      ∷ 0x0009_0008_00000407_003FFFFF_00000258_0083_00_00_00000002_0000028A_00000000 ∷ []
   -- "Elapsed is .. 0 where now is earlier."
   set_back : told (from_state two waits (types 500 0x66 ∷ [])) ≡ 1 ∷ []
   -- "a set timeout": 0 means unlimited.
@@ -57,7 +57,7 @@ pub record Step2 : Type 0 where
       worked (from_state two idle (shows 2000 0x55 ∷ []))
       ≡ 0x0000_01_00_0000000B_00000005_00000000
       ∷ 0x0000000B_00_00_0000_000003E8_00000384_00000005_000007D0_0000000000000000
-      ∷ 0x0009_0008_000002BC_003FFFFF_00000258_0080_00_00_003FFFFF_0000028A_00000000 ∷ 0 ∷ 0 ∷ []
+      ∷ 0x0009_0008_000002BC_003FFFFF_00000258_0080_00_00_003FFFFF_0000028A_00000000 ∷ []
   -- 131 before 148, 132 and a disabled factor.
   late_first :
       told (from_state two waits (errs 1031 0 ∷ [])) ++ told (from_state two waits (types 1031 0x77 ∷ []))
@@ -68,12 +68,12 @@ pub record Step2 : Type 0 where
       worked (from_state two waits (errs 1010 0x66 ∷ []))
       ≡ 0x0094_01_00_0000000B_00000005_00000000
       ∷ 0x0000000B_00_00_0000_000003E8_00000384_003FFFFF_000003E8_0000000000000000
-      ∷ 0x0009_0008_000003F2_003FFFFF_00000258_0094_00_00_00000002_0000028A_00000000 ∷ 0 ∷ 0 ∷ []
+      ∷ 0x0009_0008_000003F2_003FFFFF_00000258_0094_00_00_00000002_0000028A_00000000 ∷ []
   error :
       worked (from_state two idle (errs 1010 0x55 ∷ []))
       ≡ 0x0094_01_00_0000000B_003FFFFF_00000000
       ∷ 0x0000000B_00_00_0000_000003E8_00000384_003FFFFF_000003E8_0000000000000000
-      ∷ 0x0009_0008_000002BC_003FFFFF_00000258_0080_00_00_003FFFFF_0000028A_00000000 ∷ 0 ∷ 0 ∷ []
+      ∷ 0x0009_0008_000002BC_003FFFFF_00000258_0080_00_00_003FFFFF_0000028A_00000000 ∷ []
 
 pub step_2 : Step2
 unfolding bytes two two_disabled waits idle
@@ -97,7 +97,7 @@ pub record Step3 : Type 0 where
       worked (from_state two waits (types 1010 0x67 ∷ []))
       ≡ 0x0084_01_00_0000000B_00000005_00000000
       ∷ 0x0000000B_00_00_0000_000003E8_00000384_003FFFFF_000003E8_0000000000000000
-      ∷ 0x0009_0008_000003F2_003FFFFF_00000258_0084_00_00_00000002_0000028A_00000000 ∷ 0 ∷ 0 ∷ []
+      ∷ 0x0009_0008_000003F2_003FFFFF_00000258_0084_00_00_00000002_0000028A_00000000 ∷ []
   -- Each time the card and then: the card again, the pin of another, the value in another format, another first byte, another last byte, the
   -- zone's bytes, the pin.
   confirming :
@@ -112,7 +112,7 @@ pub record Step3 : Type 0 where
       worked (from_state two idle (shows 1010 0x77 ∷ []))
       ≡ 0x0081_01_00_0000000B_003FFFFF_00000000
       ∷ 0x0000000B_00_00_0000_000003E8_00000384_003FFFFF_000003E8_0000000000000000
-      ∷ 0x0009_0008_000002BC_003FFFFF_00000258_0080_00_00_003FFFFF_0000028A_00000000 ∷ 0 ∷ 0 ∷ []
+      ∷ 0x0009_0008_000002BC_003FFFFF_00000258_0080_00_00_003FFFFF_0000028A_00000000 ∷ []
   -- The pin, the value in another format, another first byte, another last byte, the zone's bytes, the card.
   identifying :
       told
@@ -134,13 +134,13 @@ pub record Step3 : Type 0 where
       worked (from_state two_disabled idle (shows 1010 0x55 ∷ []))
       ≡ 0x0093_01_00_0000000B_00000005_00000000
       ∷ 0x0000000B_00_00_0000_000003E8_00000384_003FFFFF_000003E8_0000000000000000
-      ∷ 0x0009_0008_000003F2_003FFFFF_00000258_0093_00_00_00000002_0000028A_00000000 ∷ 0 ∷ 0 ∷ []
+      ∷ 0x0009_0008_000003F2_003FFFFF_00000258_0093_00_00_00000002_0000028A_00000000 ∷ []
   -- "Waiting: end it": a disabled confirming factor too.
   disabled_waiting :
       worked (from_state two_disabled waits (types 1010 0x66 ∷ []))
       ≡ 0x0093_01_00_0000000B_00000005_00000000
       ∷ 0x0000000B_00_00_0000_000003E8_00000384_003FFFFF_000003E8_0000000000000000
-      ∷ 0x0009_0008_000003F2_003FFFFF_00000258_0093_00_00_00000002_0000028A_00000000 ∷ 0 ∷ 0 ∷ []
+      ∷ 0x0009_0008_000003F2_003FFFFF_00000258_0093_00_00_00000002_0000028A_00000000 ∷ []
 
 pub step_3 : Step3
 unfolding bytes two two_disabled waits idle alike
@@ -182,7 +182,7 @@ confirmed_at ds ps ss = confirmed (site (factors_wanted 2 ∷ ds) ps []) (state 
 unfoldable pub confirmed_by : List Field → List ℕ
 confirmed_by rs =
     confirmed (with_fields rs rule ∷ site (factors_wanted 2 ∷ mode 0 ∷ []) (first_rights 9 ∷ []) [])
-    (counted 0 ∷ state (waiting_for 5 ∷ []) [])
+    (state (waiting_for 5 ∷ []) [])
 
 unfoldable pub confirmed_through : List Field → List Field → List Field → List ℕ
 confirmed_through hs ys ds =

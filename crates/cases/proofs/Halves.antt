@@ -5,7 +5,7 @@ use mathlib.Core.Path.{◌≡◌, refl}
 use mathlib.Core.List.{List, [], ◌∷◌, ◌++◌, map}
 use mathlib.Core.Bool.{Bool, true, false, ◌||◌}
 use Rattle.octets.specs.Octets.{digits, put}
-use Rattle.model.specs.Words.{all}
+use Rattle.model.specs.Words.{all, zeros}
 use Rattle.model.specs.Site.{records, kind}
 use Rattle.model.specs.Accept.{in_range}
 use Rattle.model.specs.State.{Pair, panel, fresh}
@@ -129,12 +129,12 @@ turned_round = history (saturday ∷ office_backwards ++ (friday ∷ [])) readin
 abbrev returned : History → List ℕ → List ℕ
 returned h state = map number (returns h.site state h.runs)
 
--- The fresh state, and that with a byte beside the first record, a rule.
+-- The fresh state, and that with a record more behind it.
 abbrev blank : History → List ℕ
 blank h = fresh h.site
 
 abbrev marked : History → List ℕ
-marked h = put 0 1 1 (blank h)
+marked h = blank h ++ zeros 32
 
 -- From 1,441.
 abbrev unbounded : List ℕ
@@ -147,11 +147,11 @@ pub record Differing : Type 0 where
   rule_added : (stood one_rule.site third_rule.site ≡ true ∷ false ∷ []) × (events third_rule ≡ 1 ∷ 1 ∷ 1 ∷ 1 ∷ 1 ∷ [])
   others_moved : (stood one_rule.site turned_round.site ≡ true ∷ true ∷ []) × (kinds one_rule ++ kinds turned_round ≡ 2 ∷ 4 ∷ 5 ∷ 5 ∷ 5 ∷ 5 ∷ 4 ∷ 2 ∷ [])
   states_differing :
-      map (λ (w : Worked). event_in w.answer) (worked_in one_rule.site (put 82 1 1 (blank one_rule)) one_rule.runs)
+      map (λ (w : Worked). event_in w.answer) (worked_in one_rule.site (put 50 1 1 (blank one_rule)) one_rule.runs)
       ≡ 158 ∷ 158 ∷ 158 ∷ 158 ∷ 158 ∷ []
-  -- A state that no run takes, of the one site and of the other; beside all records but rules it is the fresh one.
-  state_not_taken : returned one_rule (marked one_rule) ++ returned two_rules (blank two_rules) ≡ 6 ∷ 6 ∷ 6 ∷ 0 ∷ 10 ∷ 0 ∷ []
-  other_not_taken : returned one_rule (blank one_rule) ++ returned two_rules (marked two_rules) ≡ 0 ∷ 10 ∷ 0 ∷ 6 ∷ 6 ∷ 6 ∷ []
+  -- A state that no run takes, of the one site and of the other; its records are those of the fresh one.
+  state_not_taken : returned one_rule (marked one_rule) ++ returned two_rules (blank two_rules) ≡ 5 ∷ 5 ∷ 5 ∷ 0 ∷ 10 ∷ 0 ∷ []
+  other_not_taken : returned one_rule (blank one_rule) ++ returned two_rules (marked two_rules) ≡ 0 ∷ 10 ∷ 0 ∷ 5 ∷ 5 ∷ 5 ∷ []
   same_beside :
       (others (panel one_rule.site (marked one_rule)) ≡ others (panel two_rules.site (blank two_rules)))
       × (others (panel one_rule.site (blank one_rule)) ≡ others (panel two_rules.site (marked two_rules)))

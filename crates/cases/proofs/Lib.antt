@@ -18,6 +18,10 @@ pub mod Rules
 pub mod InPlace
 pub mod Midnight
 pub mod Halves
+pub mod HalfState
+pub mod StateLengths
+pub mod Standby
+pub mod Across
 pub mod Limits
 pub mod Grants
 pub mod DayPasses

@@ -23,7 +23,7 @@ pub record Locked : Type 0 where
       worked (from_state locking shut (shows 1059 0x55 ∷ []))
       ≡ 0x00A1_00_00_0000000B_003FFFFF_00000000
       ∷ 0x0000000B_02_01_0000_000003E8_00000384_003FFFFF_00000320_0000000000000000
-      ∷ 0x0009_0008_000002BC_003FFFFF_00000258_0080_00_00_003FFFFF_0000028A_00000000 ∷ 0 ∷ 0 ∷ []
+      ∷ 0x0009_0008_000002BC_003FFFFF_00000258_0080_00_00_003FFFFF_0000028A_00000000 ∷ []
   -- "relinquish set": 0 means unlimited.
   unset : told (from_state (site (most 3 ∷ []) [] []) shut (shows 4294967294 0x55 ∷ [])) ≡ 161 ∷ []
   -- A relinquish of one second.
@@ -34,31 +34,31 @@ pub record Locked : Type 0 where
       worked (from_state locking shut (shows 1060 0x55 ∷ []))
       ≡ 0x0001_43_00_0000000B_00000005_00000000
       ∷ 0x0000000B_00_00_0000_000003E8_00000384_003FFFFF_00000320_0000000000000000
-      ∷ 0x0008_0008_00000424_003FFFFF_00000258_0001_00_00_00000002_00000424_00000000 ∷ 0 ∷ 0 ∷ []
+      ∷ 0x0008_0008_00000424_003FFFFF_00000258_0001_00_00_00000002_00000424_00000000 ∷ []
   -- "Marks once set stay": on a later denial.
   denied_after :
       worked (from_state locking (state (failures 2 ∷ locked 1 ∷ []) (disabled 1 ∷ [])) (shows 1061 0x55 ∷ []))
       ≡ 0x009E_43_00_0000000B_00000005_00000000
       ∷ 0x0000000B_00_00_0000_000003E8_00000384_003FFFFF_00000320_0000000000000000
-      ∷ 0x0009_0008_00000425_003FFFFF_00000258_009E_01_00_00000002_0000028A_00000000 ∷ 0 ∷ 0 ∷ []
+      ∷ 0x0009_0008_00000425_003FFFFF_00000258_009E_01_00_00000002_0000028A_00000000 ∷ []
   -- A failure right after it is "the first since zero".
   failed_after :
       worked (from_state locking shut (shows 1060 0x77 ∷ []))
       ≡ 0x0081_41_00_0000000B_003FFFFF_00000000
       ∷ 0x0000000B_01_00_0000_000003E8_00000424_003FFFFF_00000320_0000000000000000
-      ∷ 0x0009_0008_000002BC_003FFFFF_00000258_0080_00_00_003FFFFF_0000028A_00000000 ∷ 0 ∷ 0 ∷ []
+      ∷ 0x0009_0008_000002BC_003FFFFF_00000258_0080_00_00_003FFFFF_0000028A_00000000 ∷ []
   -- "At the most: lock from now, failures 0, mark 16": marks 1, 16 and 64.
   locked_again :
       worked (from_state (site (most 1 ∷ relinquish 60 ∷ []) [] []) (state (locked 1 ∷ []) []) (shows 1060 0x77 ∷ []))
       ≡ 0x0081_51_00_0000000B_003FFFFF_00000000
       ∷ 0x0000000B_00_01_0000_00000424_00000424_003FFFFF_00000320_0000000000000000
-      ∷ 0x0009_0008_000002BC_003FFFFF_00000258_0080_00_00_003FFFFF_0000028A_00000000 ∷ 0 ∷ 0 ∷ []
+      ∷ 0x0009_0008_000002BC_003FFFFF_00000258_0080_00_00_003FFFFF_0000028A_00000000 ∷ []
   -- "Locked": a point that is not relinquishes nothing and keeps its failures.
   unlocked :
       worked (from_state locking (state (failures 2 ∷ []) (disabled 1 ∷ [])) (shows 2000 0x55 ∷ []))
       ≡ 0x009E_03_00_0000000B_00000005_00000000
       ∷ 0x0000000B_02_00_0000_000003E8_00000384_003FFFFF_00000320_0000000000000000
-      ∷ 0x0009_0008_000007D0_003FFFFF_00000258_009E_01_00_00000002_0000028A_00000000 ∷ 0 ∷ 0 ∷ []
+      ∷ 0x0009_0008_000007D0_003FFFFF_00000258_009E_01_00_00000002_0000028A_00000000 ∷ []
   -- "The first step that gives an event ends the checks": 161 before 148, 129, 147, event 0, 152 and 128.
   first_of_all :
       told

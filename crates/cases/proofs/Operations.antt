@@ -8,11 +8,11 @@ use Rattle.cases.proofs.Change.{Field}
 use Rattle.cases.proofs.Fields.{flags, most, relinquish, zone_to_field, tag, failures, locked, waiting_for, last_point, in_zone, entered}
 use Rattle.cases.proofs.Bytes.{counted, entry, state, passing, inside, from_state, answered, worked, bytes}
 
--- The states of point 2, of credential 5 and of its factors, where nothing wrote them.
+-- The states of point 2 and of credential 5, where nothing wrote them.
 unfoldable pub rest : List ℕ
 rest =
     0x0000000A_00_00_0000_000003E8_00000384_003FFFFF_00000320_0000000000000000
-    ∷ 0x0009_0008_000002BC_00000007_000003E8_0080_00_00_003FFFFF_0000028A_00000000 ∷ 0 ∷ 0 ∷ []
+    ∷ 0x0009_0008_000002BC_00000007_000003E8_0080_00_00_003FFFFF_0000028A_00000000 ∷ []
 
 -- The answers of entries on zone 7, which holds 5.
 unfoldable pub counting : List (List ℕ) → List ℕ
@@ -76,7 +76,7 @@ pub record Disabling : Type 0 where
       ∷ 0x00000005_00000000000000000000000000000000000000000000000000000000
       ∷ 0x00000003_00000000000000000000000000000000000000000000000000000000
       ∷ 0x0000000A_00_00_0000_000003E8_00000384_003FFFFF_00000320_0000000000000000
-      ∷ 0x0009_0008_000002BC_00000007_000003E8_0080_03_00_00000002_0000028A_00000000 ∷ 0 ∷ 0 ∷ []
+      ∷ 0x0009_0008_000002BC_00000007_000003E8_0080_03_00_00000002_0000028A_00000000 ∷ []
 
 pub disabling : Disabling
 unfolding bytes
@@ -92,14 +92,14 @@ service ds ss e =
     (from_state (passing [] [] (most 3 ∷ relinquish 60 ∷ ds) (flags 8 ∷ []))
     (counted 5 ∷ counted 3 ∷ state ss (in_zone 7 ∷ entered 1000 ∷ [])) (e ∷ []))
 
--- The states of the two zones; those of credential 5 and its factors.
+-- The states of the two zones; that of credential 5.
 unfoldable pub zones : List ℕ
 zones =
     0x00000005_00000000000000000000000000000000000000000000000000000000
     ∷ 0x00000003_00000000000000000000000000000000000000000000000000000000 ∷ []
 
 unfoldable pub people : List ℕ
-people = 0x0009_0008_000002BC_00000007_000003E8_0080_00_00_003FFFFF_0000028A_00000000 ∷ 0 ∷ 0 ∷ []
+people = 0x0009_0008_000002BC_00000007_000003E8_0080_00_00_003FFFFF_0000028A_00000000 ∷ []
 
 pub record Servicing : Type 0 where
   -- "argument 1 locks a point from now and drops its wait (event 7)"; "none sets a mark"; the count of Zone_To.

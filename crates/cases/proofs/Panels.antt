@@ -1,8 +1,8 @@
--- "one of 32 bytes per site record": the record of a kind and instance beside its state record, and the state written back. No site that is accepted
--- has a record of the number NONE; here two stand, so that a reference NONE is seen to name nothing.
+-- Document 02, job 8: state records "for zones, points and credentials alone, in site sequence": the record of a kind and instance beside its state record,
+-- and the state written back. No site that is accepted has a record of the number NONE; here two stand, so that a reference NONE is seen to name nothing.
 use Prim.Native.Nat.{ℕ}
 use mathlib.Core.Path.{◌≡◌, refl}
-use mathlib.Core.List.{List, [], ◌∷◌, ◌++◌, map}
+use mathlib.Core.List.{List, [], ◌∷◌, ◌++◌, map, flatten}
 use Rattle.std.specs.Prelude.{Option, Some, None}
 use lib.ListN.{replicate}
 use Rattle.octets.specs.Octets.{put}
@@ -44,12 +44,20 @@ pub stored :
 unfolding definitions tables put records_at five_records
 stored = refl
 
--- Whole records side by side, in file order.
+-- Whole records side by side, in site sequence.
 pub side_by_side :
     panel (replicate 32 1 ++ replicate 32 2 ++ replicate 31 3) (replicate 32 4 ++ replicate 32 5 ++ replicate 32 6)
     ≡ (replicate 32 1, replicate 32 4) ∷ (replicate 32 2, replicate 32 5) ∷ []
 unfolding definitions
 side_by_side = refl
+
+-- A record of each kind, and one of none: rules, factors and that one have no state record, and the next kept record has the next.
+pub in_site_sequence :
+    panel (flatten (map (replicate 32) (3 ∷ 1 ∷ 5 ∷ 6 ∷ 2 ∷ 4 ∷ 3 ∷ []))) (replicate 32 7 ++ replicate 32 8 ++ replicate 32 9)
+    ≡ (replicate 32 3, []) ∷ (replicate 32 1, replicate 32 7) ∷ (replicate 32 5, []) ∷ (replicate 32 6, []) ∷ (replicate 32 2, replicate 32 8)
+    ∷ (replicate 32 4, replicate 32 9) ∷ (replicate 32 3, []) ∷ []
+unfolding definitions
+in_site_sequence = refl
 
 pub taken_apart :
     sites (((1 ∷ []), (2 ∷ [])) ∷ ((3 ∷ []), (4 ∷ [])) ∷ []) ∷ (state_of (((1 ∷ []), (2 ∷ [])) ∷ ((3 ∷ []), (4 ∷ [])) ∷ []) ∷ [])

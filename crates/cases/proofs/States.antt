@@ -1,4 +1,5 @@
--- "State records, one of 32 bytes per site record": their fields, fresh, and refusals 5 and 6.
+-- "State records, one of 32 bytes per site record"; document 02, job 8: "for zones, points and credentials alone". Their fields, fresh, and refusals 5
+-- and 6.
 use Rattle.std.specs.Prelude.{Ok, Err}
 use Prim.Native.Nat.{ℕ}
 use mathlib.Core.Path.{◌≡◌, refl}
@@ -112,10 +113,10 @@ every_kind =
     (zone_at 8 ∷ with_fields ((17, 1, 3) ∷ []) (point_at 2 8 4194303) ∷ point_at 3 4194303 8 ∷ rule_at 1 1 8
     ∷ with_fields ((2, 1, 3) ∷ (16, 2, 0x0102) ∷ (18, 2, 0x0304) ∷ (22, 1, 4) ∷ []) (credential_with 5) ∷ factor_with 1 6 7 ∷ credential_with 6 ∷ [])
 
--- "Fresh: uses, days, disable from the site; references NONE; last use and entered never; else zero." "Rule, factor: zero." Document 02: the count of
--- wrong tries is such a zero; last grant is "never when fresh".
+-- "Fresh: uses, days, disable from the site; references NONE; last use and entered never; else zero." Document 02: the count of wrong tries is such a zero;
+-- last grant is "never when fresh"; the rule and the factor have no record.
 pub fresh_bytes :
-    fresh_state every_kind (replicate 224 7)
+    fresh_state every_kind (replicate 160 7)
     ≡ record {
       returned = (Ok tt);
       state =
@@ -123,10 +124,8 @@ pub fresh_bytes :
           (replicate 32 0
           ∷ (0 ∷ 0 ∷ 0 ∷ 0 ∷ 0 ∷ 0 ∷ 0 ∷ 0 ∷ 0 ∷ 0 ∷ 0 ∷ 0 ∷ 0 ∷ 0 ∷ 0 ∷ 0 ∷ 0x00 ∷ 0x3F ∷ 0xFF ∷ 0xFF ∷ 0 ∷ 0 ∷ 0 ∷ 0 ∷ 0 ∷ 0 ∷ 0 ∷ 0 ∷ 0 ∷ 0 ∷ 0 ∷ 0 ∷ [])
           ∷ (0 ∷ 0 ∷ 0 ∷ 0 ∷ 0 ∷ 0 ∷ 0 ∷ 0 ∷ 0 ∷ 0 ∷ 0 ∷ 0 ∷ 0 ∷ 0 ∷ 0 ∷ 0 ∷ 0x00 ∷ 0x3F ∷ 0xFF ∷ 0xFF ∷ 0 ∷ 0 ∷ 0 ∷ 0 ∷ 0 ∷ 0 ∷ 0 ∷ 0 ∷ 0 ∷ 0 ∷ 0 ∷ 0 ∷ [])
-          ∷ replicate 32 0
           ∷ (0x01 ∷ 0x02 ∷ 0x03 ∷ 0x04 ∷ 0xFF ∷ 0xFF ∷ 0xFF ∷ 0xFF ∷ 0x00 ∷ 0x3F ∷ 0xFF ∷ 0xFF ∷ 0xFF ∷ 0xFF ∷ 0xFF ∷ 0xFF ∷ 0 ∷ 0 ∷ 3 ∷ 0
           ∷ 0x00 ∷ 0x3F ∷ 0xFF ∷ 0xFF ∷ 0xFF ∷ 0xFF ∷ 0xFF ∷ 0xFF ∷ 0 ∷ 0 ∷ 0 ∷ 0 ∷ [])
-          ∷ replicate 32 0
           ∷ (0x00 ∷ 0x00 ∷ 0x00 ∷ 0x00 ∷ 0xFF ∷ 0xFF ∷ 0xFF ∷ 0xFF ∷ 0x00 ∷ 0x3F ∷ 0xFF ∷ 0xFF ∷ 0xFF ∷ 0xFF ∷ 0xFF ∷ 0xFF ∷ 0 ∷ 0 ∷ 0 ∷ 0
           ∷ 0x00 ∷ 0x3F ∷ 0xFF ∷ 0xFF ∷ 0xFF ∷ 0xFF ∷ 0xFF ∷ 0xFF ∷ 0 ∷ 0 ∷ 0 ∷ 0 ∷ [])
           ∷ []);
@@ -134,11 +133,12 @@ pub fresh_bytes :
 unfolding definitions tables put records_at every_kind
 fresh_bytes = refl
 
--- Refusal 5: "state not as long as the site", after 1 to 4; the state is unchanged. "Fresh stops after 5."
+-- Refusal 5, after 1 to 4; the state is unchanged. "Fresh stops after 5." Document 02, job 8: "Refusal 5 now compares with 32 times their number", which is
+-- 160; a byte less, a byte more, as long as the site, none.
 pub fresh_lengths :
-    map (λ n. fresh_state every_kind (replicate n 7)) (223 ∷ 225 ∷ 0 ∷ [])
-    ≡ record { returned = (Err StateLength); state = replicate 223 7 } ∷ record { returned = (Err StateLength); state = replicate 225 7 }
-    ∷ record { returned = (Err StateLength); state = [] } ∷ []
+    map (λ n. fresh_state every_kind (replicate n 7)) (159 ∷ 161 ∷ 224 ∷ 0 ∷ [])
+    ≡ record { returned = (Err StateLength); state = replicate 159 7 } ∷ record { returned = (Err StateLength); state = replicate 161 7 }
+    ∷ record { returned = (Err StateLength); state = replicate 224 7 } ∷ record { returned = (Err StateLength); state = [] } ∷ []
 unfolding definitions tables put records_at every_kind
 fresh_lengths = refl
 
@@ -158,11 +158,11 @@ largest_state =
     flatten
     (record_of ((0, 4, 4294967295) ∷ [])
     ∷ record_of ((0, 4, 4294967295) ∷ (4, 1, 2) ∷ (8, 4, 4294967295) ∷ (12, 4, 4294967295) ∷ (16, 4, 5) ∷ (20, 4, 4294967295) ∷ [])
-    ∷ record_of ((5, 1, 1) ∷ (16, 4, 4194303) ∷ []) ∷ record_of []
+    ∷ record_of ((5, 1, 1) ∷ (16, 4, 4194303) ∷ [])
     ∷ record_of
     ((0, 4, 4294967295) ∷ (4, 4, 4294967295) ∷ (8, 4, 8) ∷ (12, 4, 4294967295) ∷ (16, 2, 65535) ∷ (18, 1, 3) ∷ (19, 1, 3) ∷ (20, 4, 2)
     ∷ (24, 4, 4294967295) ∷ [])
-    ∷ record_of [] ∷ record_of ((8, 4, 4194303) ∷ (20, 4, 4194303) ∷ []) ∷ [])
+    ∷ record_of ((8, 4, 4194303) ∷ (20, 4, 4194303) ∷ []) ∷ [])
 
 unfoldable pub state_numbers : List (List Field) → List ℕ
 state_numbers changes = map (λ fs. number (check_state every_kind (with_fields fs largest_state))) changes
@@ -183,23 +183,23 @@ pub point_well_law :
 unfolding definitions tables put records_at every_kind largest_state state_numbers
 point_well_law = refl
 
--- The credential, from byte 128: disable 4; spare bytes; last grant 0, 1, and its largest but one; zone NONE, one that is not there, a point's number; the
+-- Credential 5, from byte 96: disable 4; spare bytes; last grant 0, 1, and its largest but one; zone NONE, one that is not there, a point's number; the
 -- last point likewise.
 pub credential_well_law :
     state_numbers
-    (((146, 1, 0) ∷ []) ∷ ((146, 1, 4) ∷ []) ∷ ((156, 1, 1) ∷ []) ∷ ((157, 1, 1) ∷ []) ∷ ((158, 1, 1) ∷ []) ∷ ((159, 1, 1) ∷ [])
-    ∷ ((152, 4, 0) ∷ []) ∷ ((152, 4, 1) ∷ []) ∷ ((152, 4, 4294967294) ∷ []) ∷ ((136, 4, 4194303) ∷ [])
-    ∷ ((136, 4, 9) ∷ []) ∷ ((136, 4, 2) ∷ []) ∷ ((148, 4, 4194303) ∷ []) ∷ ((148, 4, 9) ∷ []) ∷ ((148, 4, 8) ∷ []) ∷ ((148, 4, 3) ∷ []) ∷ [])
+    (((114, 1, 0) ∷ []) ∷ ((114, 1, 4) ∷ []) ∷ ((124, 1, 1) ∷ []) ∷ ((125, 1, 1) ∷ []) ∷ ((126, 1, 1) ∷ []) ∷ ((127, 1, 1) ∷ [])
+    ∷ ((120, 4, 0) ∷ []) ∷ ((120, 4, 1) ∷ []) ∷ ((120, 4, 4294967294) ∷ []) ∷ ((104, 4, 4194303) ∷ [])
+    ∷ ((104, 4, 9) ∷ []) ∷ ((104, 4, 2) ∷ []) ∷ ((116, 4, 4194303) ∷ []) ∷ ((116, 4, 9) ∷ []) ∷ ((116, 4, 8) ∷ []) ∷ ((116, 4, 3) ∷ []) ∷ [])
     ≡ 0 ∷ 6 ∷ 6 ∷ 6 ∷ 6 ∷ 6 ∷ 0 ∷ 0 ∷ 0 ∷ 0 ∷ 6 ∷ 6 ∷ 0 ∷ 6 ∷ 6 ∷ 0 ∷ []
 unfolding definitions tables put records_at every_kind largest_state state_numbers
 credential_well_law = refl
 
--- "that count below its most, 0 if unset": of credential 5, at byte 147, none, the last below the most, the most, above it; of credential 6, at byte 211, none
+-- "that count below its most, 0 if unset": of credential 5, at byte 115, none, the last below the most, the most, above it; of credential 6, at byte 147, none
 -- and others.
 pub tries_well :
     state_numbers
-    (((147, 1, 0) ∷ []) ∷ ((147, 1, 3) ∷ []) ∷ ((147, 1, 4) ∷ []) ∷ ((147, 1, 5) ∷ []) ∷ ((147, 1, 255) ∷ []) ∷ ((211, 1, 0) ∷ []) ∷ ((211, 1, 1) ∷ [])
-    ∷ ((211, 1, 255) ∷ []) ∷ [])
+    (((115, 1, 0) ∷ []) ∷ ((115, 1, 3) ∷ []) ∷ ((115, 1, 4) ∷ []) ∷ ((115, 1, 5) ∷ []) ∷ ((115, 1, 255) ∷ []) ∷ ((147, 1, 0) ∷ []) ∷ ((147, 1, 1) ∷ [])
+    ∷ ((147, 1, 255) ∷ []) ∷ [])
     ≡ 0 ∷ 0 ∷ 6 ∷ 6 ∷ 6 ∷ 0 ∷ 6 ∷ 6 ∷ []
 unfolding definitions tables put records_at every_kind largest_state state_numbers
 tries_well = refl
@@ -214,16 +214,10 @@ pub mosts_well :
 unfolding definitions tables put records_at
 mosts_well = refl
 
--- "Rule, factor: zero": from bytes 96 and 160.
-pub zero_well :
-    state_numbers (((96, 1, 1) ∷ []) ∷ ((127, 1, 1) ∷ []) ∷ ((160, 1, 1) ∷ []) ∷ ((191, 1, 1) ∷ []) ∷ []) ≡ 6 ∷ 6 ∷ 6 ∷ 6 ∷ []
-unfolding definitions tables put records_at every_kind largest_state state_numbers
-zero_well = refl
-
--- Refusal 6 after 5: a state cut short, whose first record is not well formed; one with a byte more.
+-- Refusal 6 after 5: a state cut short, whose first record is not well formed; one with a byte more, and with records more, as long as the site.
 pub state_lengths :
-    number (check_state every_kind (take 223 (with_fields ((4, 1, 1) ∷ []) largest_state))) ∷ number (check_state every_kind (largest_state ++ (0 ∷ [])))
-    ∷ number (check_state (0 ∷ []) (0 ∷ [])) ∷ number (check_state [] []) ∷ []
-    ≡ 5 ∷ 5 ∷ 1 ∷ 0 ∷ []
+    number (check_state every_kind (take 159 (with_fields ((4, 1, 1) ∷ []) largest_state))) ∷ number (check_state every_kind (largest_state ++ (0 ∷ [])))
+    ∷ number (check_state every_kind (largest_state ++ replicate 64 0)) ∷ number (check_state (0 ∷ []) (0 ∷ [])) ∷ number (check_state [] []) ∷ []
+    ≡ 5 ∷ 5 ∷ 5 ∷ 1 ∷ 0 ∷ []
 unfolding definitions tables put records_at every_kind largest_state
 state_lengths = refl

@@ -5,7 +5,7 @@ use mathlib.Core.Path.{◌≡◌, refl}
 use mathlib.Core.List.{List, [], ◌∷◌, map, flatten}
 use lib.ListN.{replicate}
 use Rattle.octets.specs.Octets.{put}
-use Rattle.model.specs.Calls.{Returned, number, run_result, run_returned, run_journal}
+use Rattle.model.specs.Calls.{number, run_result, run_returned, run_journal}
 use Rattle.model.specs.declared.Refusal.TheVariants.{SiteLength, SiteField, SiteTwice, SiteMissing, StateLength, StateForm, JournalLength, AnswersLength}
 use Rattle.model.proofs.Open.{definitions}
 use Rattle.cases.proofs.Records.{record_of, entry_with, tables}

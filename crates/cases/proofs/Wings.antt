@@ -1,12 +1,12 @@
 -- Document 02, job 4: "Under demand 3's premises, cards in another part stay untouched." Wrong codes in the east wing leave the west wing's answers and state
 -- records, its cards' too, as they are with the east wing's entries left out.
-use Prim.Native.Nat.{ℕ}
+use Prim.Native.Nat.{ℕ, ◌/◌}
 use mathlib.Core.Path.{◌≡◌, refl}
 use mathlib.Core.List.{List, [], ◌∷◌, ◌++◌, map, flatten}
 use mathlib.Core.Bool.{false}
 use lib.Dec.{eqb}
-use lib.ListN.{replicate}
-use Rattle.octets.specs.Octets.{field}
+use lib.ListN.{length, replicate}
+use Rattle.octets.specs.Octets.{field, groups}
 use Rattle.model.specs.Words.{all}
 use Rattle.model.specs.Calls.{number}
 use Rattle.model.specs.Lists.{Run, History, returns, begun, ended, worked}
@@ -80,9 +80,11 @@ unfoldable pub no_journal : History
 unfolding wings
 no_journal = history (east_records ++ west_records) [] refl
 
--- West's answers, then its state records.
+-- West's answers, then the state records of its zone, point and credential.
 unfoldable pub west_of : History → List ℕ
-west_of h = map (field 0 16) (part_answers west h) ++ map (field 0 32) (part_state west h)
+west_of h =
+    let state = flatten (part_state west h) in
+    map (field 0 16) (part_answers west h) ++ map (field 0 32) (groups 32 (length state / 32) state)
 
 -- West's card at east's point, with a wrong code; east's card there, with west's card as the second factor.
 unfoldable pub across : History
@@ -99,11 +101,11 @@ pub record Wings : Type 0 where
   premises_alone : SelfContained west west_alone
   same_records : part_records west both ≡ part_records west west_alone
   same_entries : part_entries west both ≡ part_entries west west_alone
-  -- 5 is locked out: the state records of east are the first five.
+  -- 5 is locked out: the state records of east are the first three.
   east_locked :
-      field 0 32 (ended both) ∷ field 32 32 (ended both) ∷ field 64 32 (ended both) ∷ field 96 32 (ended both) ∷ field 128 32 (ended both) ∷ []
+      field 0 32 (ended both) ∷ field 32 32 (ended both) ∷ field 64 32 (ended both) ∷ []
       ≡ 0 ∷ 0x00000008_00_00_0000_00000000_00000000_003FFFFF_00000114_0000000000000000
-      ∷ 0xFFFF_FFFF_00000115_003FFFFF_FFFFFFFF_009A_03_00_00000002_FFFFFFFF_00000000 ∷ 0 ∷ 0 ∷ []
+      ∷ 0xFFFF_FFFF_00000115_003FFFFF_FFFFFFFF_009A_03_00_00000002_FFFFFFFF_00000000 ∷ []
   -- West's answers and state records, with east's entries and without them: 6 has one wrong try, after its grant.
   beside :
       west_of both
@@ -111,13 +113,13 @@ pub record Wings : Type 0 where
       ∷ 0x0001_01_00_00000004_00000006_00000001 ∷ 0x0000_01_00_00000005_00000006_00000001 ∷ 0x0084_01_00_00000006_00000006_00000001
       ∷ 0x00000001_00000000000000000000000000000000000000000000000000000000
       ∷ 0x00000006_00_00_0000_00000000_00000000_003FFFFF_00000120_0000000000000000
-      ∷ 0xFFFF_FFFF_00000121_00000008_00000113_0084_00_01_00000003_00000113_00000000 ∷ 0 ∷ 0 ∷ []
+      ∷ 0xFFFF_FFFF_00000121_00000008_00000113_0084_00_01_00000003_00000113_00000000 ∷ []
   left_out : west_of west_alone ≡ west_of both
   -- No entry of west: its records are as fresh.
   no_entry :
       west_of east_alone
       ≡ 0 ∷ 0x00000000_00_00_0000_00000000_00000000_003FFFFF_00000000_0000000000000000
-      ∷ 0xFFFF_FFFF_FFFFFFFF_003FFFFF_FFFFFFFF_0000_00_00_003FFFFF_FFFFFFFF_00000000 ∷ 0 ∷ 0 ∷ []
+      ∷ 0xFFFF_FFFF_FFFFFFFF_003FFFFF_FFFFFFFF_0000_00_00_003FFFFF_FFFFFFFF_00000000 ∷ []
   fresh : west_of no_journal ≡ west_of east_alone
   -- The definition leaves the same entries out, and the journal that is turned back stays.
   left_out_runs : (others_left_out west both).runs ≡ west_alone.runs
@@ -127,7 +129,7 @@ pub record Wings : Type 0 where
   counted_across :
       west_of across
       ≡ 0 ∷ 0x00000000_00_00_0000_00000000_00000000_003FFFFF_00000000_0000000000000000
-      ∷ 0xFFFF_FFFF_00000101_003FFFFF_FFFFFFFF_0084_00_01_00000002_FFFFFFFF_00000000 ∷ 0 ∷ 0 ∷ []
+      ∷ 0xFFFF_FFFF_00000101_003FFFFF_FFFFFFFF_0084_00_01_00000002_FFFFFFFF_00000000 ∷ []
   -- 6's card as the second factor after 5's is no such read: it is 5's wrong try.
   second : SelfContained west second_factor
   second_left : west_of second_factor ≡ west_of east_alone
