@@ -11,5 +11,5 @@ pub mod states;
 pub use case::{case, list_run, Case};
 pub use journals::journal;
 pub use random::Random;
-pub use sites::{large_site, site};
-pub use states::state;
+pub use sites::{large_site, orders_of_three, site};
+pub use states::{longer_state, state};
