@@ -1,7 +1,7 @@
 //! Lookups by scans of the site.
 
 use crate::bytes::{get32, get64, word, Record};
-use crate::lookup::{rights, Field, Lookup, Rule};
+use crate::lookup::{is_kept, rights, Field, Lookup, Object, Rule};
 use reference::layout::{factor, record};
 use reference::numbers::{factor_role, kind, NONE};
 use std::ops::ControlFlow::{self, Continue};
@@ -55,6 +55,12 @@ fn position(records: &[Record], fits: impl Fn(&Record) -> bool) -> Option<usize>
     Some(turns.len() * TURN + place)
 }
 
+/// How many state records these have.
+#[inline(always)]
+fn kept(records: &[Record]) -> usize {
+    records.iter().filter(|record| is_kept(record)).count()
+}
+
 impl Lookup for Linear {
     fn new(records: &[Record]) -> Option<Linear> {
         let mut places = records.iter().enumerate();
@@ -63,19 +69,34 @@ impl Lookup for Linear {
     }
 
     #[inline]
-    fn find(&self, records: &[Record], kind: u8, instance: u32) -> Option<usize> {
+    fn kept(&self, records: &[Record]) -> usize {
+        kept(records)
+    }
+
+    #[inline]
+    fn find(&self, records: &[Record], kind: u8, instance: u32) -> Option<Object> {
         let key = key(kind, instance);
-        position(records, |record| key_of(record) == key)
+        let record = position(records, |record| key_of(record) == key)?;
+        Some(Object {
+            record,
+            part: kept(&records[..record]),
+        })
+    }
+
+    #[inline]
+    fn exists(&self, records: &[Record], kind: u8, instance: u32) -> bool {
+        let key = key(kind, instance);
+        position(records, |record| key_of(record) == key).is_some()
     }
 
     #[inline]
     fn link(&mut self, records: &[Record], index: usize, field: &Field) -> bool {
         let instance = field.instance(&records[index]);
-        instance == NONE || self.find(records, field.kind, instance).is_some()
+        instance == NONE || self.exists(records, field.kind, instance)
     }
 
     #[inline]
-    fn named(&self, records: &[Record], index: usize, field: &Field) -> Option<usize> {
+    fn named(&self, records: &[Record], index: usize, field: &Field) -> Option<Object> {
         let instance = field.instance(&records[index]);
         if instance == NONE {
             return None;

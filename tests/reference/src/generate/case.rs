@@ -72,7 +72,7 @@ pub fn list_run(random: &mut Random, base: u32, site: &[u8], most: usize) -> (Ve
 }
 
 /// Damages a state in some of five ways, or in none.
-fn damage_state(random: &mut Random, site: &[u8], state: &mut Vec<u8>) {
+pub fn damage_state(random: &mut Random, site: &[u8], state: &mut Vec<u8>) {
     if random.sixteenths(3) {
         damage(random, state, RECORD_LENGTH);
     }

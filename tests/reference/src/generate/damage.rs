@@ -68,7 +68,7 @@ pub fn damage_length(random: &mut Random, site: &[u8], state: &mut Vec<u8>) {
 }
 
 /// The units in any order.
-fn in_another_order(random: &mut Random, bytes: &[u8], unit: usize) -> Vec<u8> {
+pub fn in_another_order(random: &mut Random, bytes: &[u8], unit: usize) -> Vec<u8> {
     let mut units: Vec<&[u8]> = bytes.chunks(unit).collect();
     random.shuffle(&mut units);
     units.concat()
