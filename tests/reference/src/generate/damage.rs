@@ -54,15 +54,16 @@ pub fn damage_wrong_tries(random: &mut Random, site: &[u8], state: &mut [u8]) {
 }
 
 /// Makes a state one of another length or of another site: the longer one, one with a record less or
-/// more, or one of as many zones, points and credentials in another order.
+/// more, or one of as many zones, points and credentials in another order, often of two alone.
 pub fn damage_length(random: &mut Random, site: &[u8], state: &mut Vec<u8>) {
-    match random.below(4) {
+    match random.below(5) {
         0 => *state = lengthened(site, state),
         1 if state.len() >= RECORD_LENGTH => remove(random, state, RECORD_LENGTH),
         2 => {
             let end = unit_or_end(random, state, RECORD_LENGTH);
             state.splice(end..end, [0; RECORD_LENGTH]);
         }
+        3 if state.len() >= RECORD_LENGTH => swap(random, state, RECORD_LENGTH),
         _ => *state = in_another_order(random, state, RECORD_LENGTH),
     }
 }
