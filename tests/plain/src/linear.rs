@@ -3,10 +3,20 @@
 use crate::bytes::{get32, get64, word, Record};
 use crate::lookup::{is_kept, rights, Field, Lookup, Object, Rule};
 use reference::layout::{factor, record};
-use reference::numbers::{factor_role, kind, NONE};
+use reference::numbers::{factor_role, kind, MOST_SITE_BYTES, NONE, RECORD_LENGTH};
 use std::ops::ControlFlow::{self, Continue};
 
-pub struct Linear;
+pub struct Linear {
+    /// How many state records those before each block of the site have, so that a record's place in
+    /// the state takes no second scan of the site.
+    before: [u16; BLOCKS],
+    kept: usize,
+}
+
+/// The records of a block.
+const BLOCK: usize = 16;
+
+const BLOCKS: usize = (MOST_SITE_BYTES / RECORD_LENGTH).div_ceil(BLOCK);
 
 /// The bytes of a record's first word that hold kind and instance.
 const KEY: u64 = u64::from_ne_bytes([0xFF, 0, 0, 0, 0xFF, 0xFF, 0xFF, 0xFF]);
@@ -61,25 +71,41 @@ fn kept(records: &[Record]) -> usize {
     records.iter().filter(|record| is_kept(record)).count()
 }
 
+impl Linear {
+    fn counted(records: &[Record]) -> Linear {
+        let mut before = [0; BLOCKS];
+        let mut count = 0;
+        for (block, before) in records.chunks(BLOCK).zip(&mut before) {
+            *before = count as u16;
+            count += kept(block);
+        }
+        Linear {
+            before,
+            kept: count,
+        }
+    }
+}
+
 impl Lookup for Linear {
     fn new(records: &[Record]) -> Option<Linear> {
         let mut places = records.iter().enumerate();
         let has_twins = places.any(|(index, record)| is_among(&records[..index], record));
-        (!has_twins).then_some(Linear)
+        (!has_twins).then(|| Linear::counted(records))
     }
 
     #[inline]
-    fn kept(&self, records: &[Record]) -> usize {
-        kept(records)
+    fn kept(&self, _: &[Record]) -> usize {
+        self.kept
     }
 
     #[inline]
     fn find(&self, records: &[Record], kind: u8, instance: u32) -> Option<Object> {
         let key = key(kind, instance);
         let record = position(records, |record| key_of(record) == key)?;
+        let block = record / BLOCK;
         Some(Object {
             record,
-            part: kept(&records[..record]),
+            part: usize::from(self.before[block]) + kept(&records[block * BLOCK..record]),
         })
     }
 
