@@ -1,5 +1,5 @@
-//! The longer state, as it was until now: a record for every site record, those of rules and factors
-//! zero. Its fresh state, check and run, by the same decisions, and the ways between the two forms.
+//! The longer state of older panels: a record for every site record, those of rules and factors zero.
+//! Its fresh state, check and run, by the same decisions, and the ways between the two forms.
 
 use crate::numbers::{refusal, RECORD_LENGTH};
 use crate::site::{check_site, records};

@@ -24,8 +24,13 @@ const BERT: u32 = 9;
 const BERTS_CARD: [u8; 8] = [0, 0, 0, 0, 0, 0, 0, 0x66];
 const WRONG: [u8; 8] = [9; 8];
 
-/// A laboratory whose door wants card and code; of its 13 records the state keeps 5.
-fn laboratory() -> Vec<Record> {
+/// A counted laboratory, its door, which wants card and code, and its exit.
+fn zone_door_and_exit() -> [Record; 3] {
+    let zone = Zone {
+        flags: zone_flag::OCCUPANCY_COUNT_ENABLE,
+        passback_mode: passback_mode::HARD_PASSBACK,
+        ..Zone::new(LAB)
+    };
     let door = Point {
         flags: point_flag::OCCUPANCY_COUNT_ADJUST,
         factors_wanted: factors_wanted::TWO,
@@ -39,35 +44,34 @@ fn laboratory() -> Vec<Record> {
         zone_from: LAB,
         ..Point::new(EXIT)
     };
-    let zone = Zone {
-        flags: zone_flag::OCCUPANCY_COUNT_ENABLE,
-        passback_mode: passback_mode::HARD_PASSBACK,
-        ..Zone::new(LAB)
-    };
-    let credential = |instance| Credential {
+    [zone.record(), door.record(), exit.record()]
+}
+
+/// Somebody's credential, card and code.
+fn person(instance: u32, card: [u8; 8]) -> [Record; 3] {
+    let credential = Credential {
         days: 3,
         most_wrong_tries: 3,
         rights: [1, 2],
         ..Credential::new(instance)
     };
-    let code = |instance| Factor {
+    let code = Factor {
         role: factor_role::CONFIRMING,
         ..Factor::new(instance, CODE)
     };
+    let card = Factor::new(instance, card);
+    [credential.record(), card.record(), code.record()]
+}
+
+/// The records of the site in a mixed order; of the 13 the state keeps 5.
+fn laboratory() -> Vec<Record> {
+    let [zone, door, exit] = zone_door_and_exit();
+    let [anna, annas_card, annas_code] = person(ANNA, CARD);
+    let [bert, berts_card, berts_code] = person(BERT, BERTS_CARD);
+    let rules = [1, 2, 2, 3].map(|rights| Rule::new(rights).record());
     vec![
-        Factor::new(ANNA, CARD).record(),
-        Rule::new(1).record(),
-        exit.record(),
-        code(ANNA).record(),
-        credential(ANNA).record(),
-        Rule::new(2).record(),
-        Rule::new(2).record(),
-        zone.record(),
-        Factor::new(BERT, BERTS_CARD).record(),
-        credential(BERT).record(),
-        code(BERT).record(),
-        door.record(),
-        Rule::new(3).record(),
+        annas_card, rules[0], exit, annas_code, anna, rules[1], rules[2], zone, berts_card, bert,
+        berts_code, door, rules[3],
     ]
 }
 
@@ -237,7 +241,7 @@ pub fn the_ways_are_turned_back_for_the_site_then_the_lengths_then_the_form(engi
     check(&twice, &spoiled[1..], &spoiled, refusal::SITE_TWICE);
     check(missing, &spoiled[1..], &spoiled, refusal::SITE_MISSING);
     for length in [0, kept - 32, kept - 1, kept + 1, kept + 32, site.len()] {
-        check(site, longer, &spoiled[..length], refusal::STATE_LENGTH);
+        check(site, &spoiled, &spoiled[..length], refusal::STATE_LENGTH);
     }
     for length in [0, kept, site.len() - 32, site.len() - 1] {
         let longer = &spoiled[..length];
