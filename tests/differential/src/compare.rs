@@ -1,16 +1,12 @@
 //! One call through both engines: what it hands back and every byte of its buffers are the same,
 //! and a call turned back leaves the buffers as they were.
 
+use crate::faults::{called, report, smallest, Buffers, Call};
 use crate::proved;
-use reference::generate::Case;
-use reference::journal;
-use reference::numbers::{refusal, ANSWER_LENGTH, ENTRY_LENGTH, RECORD_LENGTH};
-use reference::{site, state};
-use std::fmt::Write;
-use std::ops::Range;
-
-/// A call of one engine on the buffers that it takes of a case.
-type Call = fn(&mut Case) -> u8;
+use reference::generate::{Case, Forms};
+use reference::numbers::refusal;
+use reference::state::Place;
+use reference::{journal, longer, site, state};
 
 /// The site check through both engines. Panics where they disagree.
 pub fn check_site(site: Vec<u8>) -> u8 {
@@ -40,12 +36,11 @@ pub fn fresh_state(case: &mut Case) -> u8 {
     )
 }
 
-/// The state check, beside the reference's run of an empty journal, which is turned back by the
-/// same numbers. Panics where they disagree.
+/// The state check through both engines. Panics where they disagree.
 pub fn check_state(case: &mut Case) -> u8 {
     agreed(
         |case| proved::check_state(&case.site, &case.state),
-        |case| journal::run_journal(&case.site, &mut case.state, &[], &mut []),
+        |case| state::check_state(&case.site, &case.state),
         case,
     )
 }
@@ -53,6 +48,48 @@ pub fn check_state(case: &mut Case) -> u8 {
 /// The journal run through both engines, left in the case. Panics where they disagree.
 pub fn run_journal(case: &mut Case) -> u8 {
     agreed(proved_run, reference_run, case)
+}
+
+/// The way from the longer state through both engines, left in the forms. Panics where they disagree.
+pub fn shorten_state(forms: &mut Forms) -> u8 {
+    agreed(
+        |forms| {
+            guarded(&mut forms.state, |state| {
+                proved::shorten_state(&forms.site, &forms.longer, state)
+            })
+        },
+        |forms| longer::shorten_state(&forms.site, &forms.longer, &mut forms.state),
+        forms,
+    )
+}
+
+/// The way back through both engines, left in the forms. Panics where they disagree.
+pub fn lengthen_state(forms: &mut Forms) -> u8 {
+    agreed(
+        |forms| {
+            guarded(&mut forms.longer, |longer| {
+                proved::lengthen_state(&forms.site, &forms.state, longer)
+            })
+        },
+        |forms| longer::lengthen_state(&forms.site, &forms.state, &mut forms.longer),
+        forms,
+    )
+}
+
+/// The length of a site's state by both engines. Panics where they disagree.
+pub fn state_length(site: &[u8]) -> usize {
+    let length = state::state_length(site);
+    assert_eq!(proved::state_length(site), length, "{site:02X?}");
+    length
+}
+
+/// Where both engines find the records of an object. Panics where they disagree.
+pub fn place_of(site: &[u8], kind: u8, instance: u32) -> Option<Place> {
+    let place = state::place_of(site, kind, instance);
+    let expected = place.map_or(proved::NOWHERE, |found| [found.place, found.state_offset]);
+    let found = proved::place_of(site, kind, instance);
+    assert_eq!(found, expected, "{kind} {instance} in {site:02X?}");
+    place
 }
 
 fn proved_run(case: &mut Case) -> u8 {
@@ -83,134 +120,32 @@ fn guarded(buffer: &mut [u8], call: impl FnOnce(&mut [u8]) -> u8) -> u8 {
     returned
 }
 
-fn agreed(proved: Call, reference: Call, case: &mut Case) -> u8 {
-    let disagree = |case: &Case| called(proved, case) != called(reference, case);
-    let (returned, after) = called(proved, case);
-    let (expected, reference_after) = called(reference, case);
+fn agreed<B: Buffers>(proved: Call<B>, reference: Call<B>, buffers: &mut B) -> u8 {
+    let disagree = |buffers: &B| called(proved, buffers) != called(reference, buffers);
+    let (returned, after) = called(proved, buffers);
+    let (expected, reference_after) = called(reference, buffers);
     if returned != expected || after != reference_after {
-        let case = smallest(case, disagree);
-        panic!("{}", report(proved, reference, &case));
+        let buffers = smallest(buffers, disagree);
+        panic!("{}", report(proved, reference, &buffers));
     }
     if returned != refusal::ACCEPTED {
-        assert!(after == *case, "a call turned back changed a buffer");
+        assert!(after == *buffers, "a call turned back changed a buffer");
     }
-    *case = after;
+    *buffers = after;
     returned
-}
-
-/// What a call hands back, and the buffers after it.
-fn called(call: Call, case: &Case) -> (u8, Case) {
-    let mut after = case.clone();
-    (call(&mut after), after)
-}
-
-/// The case without the entries and records that its fault does not need. It tries again after
-/// each success, since an object can go only after what names it.
-fn smallest(case: &Case, has_fault: impl Fn(&Case) -> bool) -> Case {
-    let entries = case.journal.len() / ENTRY_LENGTH;
-    let records = case.site.len() / RECORD_LENGTH;
-    let fewer = cut(case.clone(), entries, without_entries, &has_fault);
-    let fewer = cut(fewer, records, without_records, &has_fault);
-    if fewer == *case {
-        return fewer;
-    }
-    smallest(&fewer, has_fault)
-}
-
-/// Leaves out units that the fault does not need: large parts first, since a case may be long, and
-/// at last each unit alone.
-fn cut(
-    mut case: Case,
-    mut units: usize,
-    without: fn(&Case, &Range<usize>) -> Case,
-    has_fault: impl Fn(&Case) -> bool,
-) -> Case {
-    let mut size = units;
-    while size > 0 {
-        let mut start = 0;
-        while start < units {
-            let part = start..units.min(start + size);
-            let smaller = without(&case, &part);
-            if has_fault(&smaller) {
-                case = smaller;
-                units -= part.len();
-            } else {
-                start = part.end;
-            }
-        }
-        size /= 2;
-    }
-    case
-}
-
-fn without_entries(case: &Case, part: &Range<usize>) -> Case {
-    Case {
-        journal: without(&case.journal, ENTRY_LENGTH, part),
-        answers: without(&case.answers, ANSWER_LENGTH, part),
-        ..case.clone()
-    }
-}
-
-fn without_records(case: &Case, part: &Range<usize>) -> Case {
-    Case {
-        site: without(&case.site, RECORD_LENGTH, part),
-        state: without(&case.state, RECORD_LENGTH, part),
-        ..case.clone()
-    }
-}
-
-/// Bytes without a part of their units, where they have it whole.
-fn without(bytes: &[u8], unit: usize, part: &Range<usize>) -> Vec<u8> {
-    let mut bytes = bytes.to_vec();
-    if part.end * unit <= bytes.len() {
-        bytes.drain(part.start * unit..part.end * unit);
-    }
-    bytes
-}
-
-fn report(proved: Call, reference: Call, case: &Case) -> String {
-    let mut text = String::from("the engines disagree\n");
-    text.push_str(&rows("site", &case.site, RECORD_LENGTH));
-    text.push_str(&rows("state", &case.state, RECORD_LENGTH));
-    text.push_str(&rows("journal", &case.journal, ENTRY_LENGTH));
-    text.push_str(&rows("answers", &case.answers, ANSWER_LENGTH));
-    for (name, call) in [("proved", proved), ("reference", reference)] {
-        let (returned, after) = called(call, case);
-        let _ = writeln!(text, "{name}: {returned}");
-        text.push_str(&rows("state after", &after.state, RECORD_LENGTH));
-        text.push_str(&rows("answers after", &after.answers, ANSWER_LENGTH));
-    }
-    text
-}
-
-/// A buffer in hexadecimal digits, a unit to a line.
-fn rows(name: &str, bytes: &[u8], unit: usize) -> String {
-    let mut text = format!("  {name}, {} bytes\n", bytes.len());
-    for row in bytes.chunks(unit) {
-        text.push_str("   ");
-        for word in row.chunks(4) {
-            text.push(' ');
-            for byte in word {
-                // Writing into a String cannot fail.
-                let _ = write!(text, "{byte:02X}");
-            }
-        }
-        text.push('\n');
-    }
-    text
 }
 
 #[cfg(test)]
 mod tests {
     use super::*;
-    use reference::numbers::event;
+    use reference::numbers::{event, ANSWER_LENGTH, ENTRY_LENGTH, RECORD_LENGTH};
     use reference::scenarios::paper_cases::{printed_journal, printed_site};
 
     /// The paper's site and journal, from the fresh state.
     fn paper_case() -> Case {
         let (site, journal) = (printed_site(), printed_journal());
         let mut case = Case {
-            state: vec![0; site.len()],
+            state: vec![0; state::state_length(&site)],
             answers: vec![0; journal.len() / ENTRY_LENGTH * ANSWER_LENGTH],
             site,
             journal,
@@ -259,5 +194,37 @@ mod tests {
         let case = smallest(&paper_case(), wrong);
         assert_eq!(case.site, printed_site()[..2 * RECORD_LENGTH]);
         assert_eq!(case.journal, printed_journal()[2 * ENTRY_LENGTH..]);
+    }
+
+    /// A way that spoils the count of zone 23, the first record.
+    fn shorten_with_a_wrong_count(forms: &mut Forms) -> u8 {
+        let returned = reference_shorten(forms);
+        if returned == refusal::ACCEPTED && !forms.state.is_empty() {
+            forms.state[0] ^= 1;
+        }
+        returned
+    }
+
+    fn reference_shorten(forms: &mut Forms) -> u8 {
+        longer::shorten_state(&forms.site, &forms.longer, &mut forms.state)
+    }
+
+    /// One record with a state is enough, and both of its forms go with it.
+    #[test]
+    fn forms_are_cut_to_what_their_fault_needs() {
+        let site = printed_site();
+        let mut forms = Forms {
+            longer: vec![0; site.len()],
+            state: vec![0xA5; state::state_length(&site)],
+            site,
+        };
+        longer::fresh_state(&forms.site, &mut forms.longer);
+        let wrong = |forms: &Forms| {
+            called(shorten_with_a_wrong_count, forms) != called(reference_shorten, forms)
+        };
+        let forms = smallest(&forms, wrong);
+        assert_eq!(forms.site.len(), RECORD_LENGTH);
+        assert_eq!(forms.longer.len(), RECORD_LENGTH);
+        assert_eq!(forms.state.len(), RECORD_LENGTH);
     }
 }

@@ -14,10 +14,12 @@
 //! or more, WARBLEHAY_LIB_DIR and WARBLEHAY_BIN_DIR other places of the library and of the program.
 //! The gate sets none of them.
 
-#![forbid(unsafe_code)]
+#![deny(unsafe_code)]
 
+mod c_library;
 pub mod colliding;
 pub mod compare;
+mod faults;
 pub mod proved;
 pub mod small;
 

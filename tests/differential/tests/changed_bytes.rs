@@ -8,6 +8,7 @@ use reference::numbers::{
     format, refusal, ANSWER_LENGTH, ENTRY_LENGTH, MOST_JOURNAL_BYTES, RECORD_LENGTH,
 };
 use reference::occurrences::Occurrences;
+use reference::state::state_length;
 
 /// A time in the hours of the small sites' rule.
 const NOW: u32 = 255 * 60;
@@ -36,7 +37,7 @@ fn case_of(site: &[u8], state: &[u8], journal: &[u8]) -> Case {
 
 /// The fresh state of a site and two odd ones, the same in every run.
 fn states_of(site: &[u8]) -> Vec<Vec<u8>> {
-    let mut fresh = case_of(site, site, &[]);
+    let mut fresh = case_of(site, &vec![0xA5; state_length(site)], &[]);
     assert_eq!(compare::fresh_state(&mut fresh), refusal::ACCEPTED);
     let mut random = Random::new(1);
     let odd = (0..2).map(|_| state(&mut random, NOW, site));
@@ -107,7 +108,8 @@ fn every_length() {
     let journal = journal(&entries()[..2]);
     let sound = case_of(&site, &state, &journal);
     let mut occurrences = Occurrences::default();
-    for state in about(site.len(), RECORD_LENGTH) {
+    let of_both_forms = [state.len(), site.len()].map(|length| about(length, RECORD_LENGTH));
+    for state in of_both_forms.concat() {
         for journal in about(journal.len(), ENTRY_LENGTH) {
             for answers in about(2 * ANSWER_LENGTH, ANSWER_LENGTH) {
                 let mut case = sound.clone();

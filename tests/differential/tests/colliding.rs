@@ -15,6 +15,7 @@ use reference::numbers::{
 };
 use reference::occurrences::Occurrences;
 use reference::site::{instance_of, kind_of, records};
+use reference::state::kept_records;
 use std::collections::BTreeSet;
 use std::fs;
 use std::path::Path;
@@ -217,7 +218,7 @@ fn a_state_that_names_a_missing_object() {
         site,
     };
     assert_eq!(compare::run_journal(&mut sound.clone()), refusal::ACCEPTED);
-    for (index, record) in records(&sound.site).enumerate() {
+    for (index, record) in kept_records(&sound.site).enumerate() {
         for (offset, kind) in named_in_state(record) {
             let mut case = sound.clone();
             let missing = unknown_instance(&case.site, kind);

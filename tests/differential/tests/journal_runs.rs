@@ -8,6 +8,7 @@ use reference::numbers::{
     refusal, ANSWER_LENGTH, ENTRY_LENGTH, MOST_JOURNAL_BYTES, MOST_SITE_BYTES, RECORD_LENGTH,
 };
 use reference::occurrences::{Occurrences, REFUSALS};
+use reference::state::state_length;
 
 const CASES: usize = 300_000;
 
@@ -91,7 +92,7 @@ fn lists_of_journals_from_fresh() {
 /// A case of a sound site and journal, with bytes in state and answers that a call must overwrite.
 fn unworked(random: &mut Random, site: Vec<u8>, journal: Vec<u8>) -> Case {
     Case {
-        state: vec![random.byte(); site.len()],
+        state: vec![random.byte(); state_length(&site)],
         answers: vec![random.byte(); journal.len() / ENTRY_LENGTH * ANSWER_LENGTH],
         site,
         journal,

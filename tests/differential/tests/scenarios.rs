@@ -1,5 +1,6 @@
 //! The named scenarios through the proved engine: the papers' cases and misreadings, the field
-//! engineer's sheet, long rule lists, shifts that cross midnight, and the way from a reader to the door.
+//! engineer's sheet, long rule lists, shifts that cross midnight, the standby panel, and the way from a
+//! reader to the door.
 
 use differential::proved;
 use reference::scenarios::readers;

@@ -1,4 +1,4 @@
-//! The state check of the proved engine, beside the reference's run of an empty journal.
+//! The state check through both engines.
 
 use differential::{compare, settings, small};
 use reference::generate::{case, large_site, state, Case, Random};

@@ -3,7 +3,7 @@
 use crate::answer::Answer;
 use crate::bytes::{get16, get32, put16, put32, Record};
 use crate::journal::{count_of, gain_tag};
-use crate::lookup::{Lookup, OWNER, ZONE_FROM, ZONE_TO};
+use crate::lookup::{Lookup, Object, OWNER, ZONE_FROM, ZONE_TO};
 use crate::rights::check_rights;
 use crate::site::Site;
 use reference::layout::{
@@ -16,18 +16,18 @@ use reference::numbers::{
 };
 use std::ops::ControlFlow::{self, Break, Continue};
 
-/// One read. Records are known by their position.
+/// One read.
 pub struct FactorRead<'a, L> {
     site: &'a Site<'a, L>,
     state: &'a mut [Record],
     now: u32,
-    index: usize,
+    object: Object,
     point: &'a Record,
-    zone_to: Option<usize>,
+    zone_to: Option<Object>,
     /// The credential that the point waits for, or NONE.
     waited_for: u32,
     /// The credential that the answer names.
-    named: Option<usize>,
+    named: Option<Object>,
     marks: u8,
 }
 
@@ -36,15 +36,15 @@ impl<'a, L: Lookup> FactorRead<'a, L> {
     pub fn new(
         site: &'a Site<'a, L>,
         state: &'a mut [Record],
-        index: usize,
+        object: Object,
         now: u32,
     ) -> FactorRead<'a, L> {
         FactorRead {
             now,
-            index,
-            point: &site.records[index],
-            zone_to: site.lookup.named(site.records, index, &ZONE_TO),
-            waited_for: get32(&state[index], point_state::WAITING_CREDENTIAL),
+            object,
+            point: &site.records[object.record],
+            zone_to: site.lookup.named(site.records, object.record, &ZONE_TO),
+            waited_for: get32(&state[object.part], point_state::WAITING_CREDENTIAL),
             named: None,
             marks: 0,
             site,
@@ -85,21 +85,21 @@ impl<'a, L: Lookup> FactorRead<'a, L> {
         self.check_lockout()?;
         self.marks |= mark::AUTHENTICATION_FACTOR_READ;
         self.check_read(format)?;
-        let index = self.match_factor(format, value)?;
-        let holder = &self.site.records[index];
+        let Object { record, part } = self.match_factor(format, value)?;
+        let holder = &self.site.records[record];
         self.wait_for_second(holder)?;
-        self.check_active(holder, index)?;
+        self.check_active(holder, part)?;
         let zone_from = self
             .site
             .lookup
-            .named(self.site.records, self.index, &ZONE_FROM);
+            .named(self.site.records, self.object.record, &ZONE_FROM);
         if holder[record::FLAGS] & credential_flag::MASTER_EXEMPTION == 0 {
-            self.check_authorization(holder, index)?;
-            self.check_passback(holder, index)?;
+            self.check_authorization(holder, record)?;
+            self.check_passback(holder, part)?;
             self.check_limits(holder, zone_from)?;
         }
         self.adjust_counts(zone_from)?;
-        self.grant(holder, index);
+        self.grant(holder, part);
         Continue(())
     }
 
@@ -115,12 +115,12 @@ impl<'a, L: Lookup> FactorRead<'a, L> {
 
     #[inline]
     fn held(&self) -> &Record {
-        &self.state[self.index]
+        &self.state[self.object.part]
     }
 
     #[inline]
     fn held_mut(&mut self) -> &mut Record {
-        &mut self.state[self.index]
+        &mut self.state[self.object.part]
     }
 
     /// Elapsed since a time that the point's state holds.
@@ -171,7 +171,7 @@ impl<'a, L: Lookup> FactorRead<'a, L> {
 
     /// Step 3: the credential of the factor.
     #[inline]
-    fn match_factor(&mut self, format: u8, value: u64) -> ControlFlow<u16, usize> {
+    fn match_factor(&mut self, format: u8, value: u64) -> ControlFlow<u16, Object> {
         let (lookup, records) = (&self.site.lookup, self.site.records);
         let found = if self.is_waiting() {
             self.end_wait();
@@ -209,8 +209,8 @@ impl<'a, L: Lookup> FactorRead<'a, L> {
 
     /// Step 5. Uses, days and disable are the state's.
     #[inline]
-    fn check_active(&self, holder: &Record, index: usize) -> ControlFlow<u16> {
-        let held = &self.state[index];
+    fn check_active(&self, holder: &Record, part: usize) -> ControlFlow<u16> {
+        let held = &self.state[part];
         if self.now < get32(holder, credential::ACTIVATION_TIME) {
             return Break(event::DENIED_CREDENTIAL_NOT_YET_ACTIVE);
         }
@@ -246,7 +246,7 @@ impl<'a, L: Lookup> FactorRead<'a, L> {
 
     /// Steps 7 to 9.
     #[inline]
-    fn check_authorization(&self, holder: &Record, index: usize) -> ControlFlow<u16> {
+    fn check_authorization(&self, holder: &Record, record: usize) -> ControlFlow<u16> {
         let mode = self.point[point::AUTHORIZATION_MODE];
         if mode == authorization_mode::DENY_ALL {
             return Break(event::DENIED_DENY_ALL);
@@ -255,15 +255,15 @@ impl<'a, L: Lookup> FactorRead<'a, L> {
             return Break(event::DENIED_THREAT_LEVEL);
         }
         if mode == authorization_mode::AUTHORIZE {
-            return check_rights(self.site, index, self.point, self.now);
+            return check_rights(self.site, record, self.point, self.now);
         }
         Continue(())
     }
 
     /// Step 10, passback.
     #[inline]
-    fn check_passback(&mut self, holder: &Record, index: usize) -> ControlFlow<u16> {
-        let held = &self.state[index];
+    fn check_passback(&mut self, holder: &Record, part: usize) -> ControlFlow<u16> {
+        let held = &self.state[part];
         let Some(zone_to) = self.zone_to else {
             return Continue(());
         };
@@ -272,7 +272,7 @@ impl<'a, L: Lookup> FactorRead<'a, L> {
         {
             return Continue(());
         }
-        let zone = &self.site.records[zone_to];
+        let zone = &self.site.records[zone_to.record];
         let timeout = u64::from(get32(zone, zone::PASSBACK_TIMEOUT));
         let entered = get32(held, credential_state::ENTERED);
         // The product passes 32 bits.
@@ -292,21 +292,21 @@ impl<'a, L: Lookup> FactorRead<'a, L> {
 
     /// Step 10, limits: the lower one first.
     #[inline]
-    fn check_limits(&self, holder: &Record, zone_from: Option<usize>) -> ControlFlow<u16> {
+    fn check_limits(&self, holder: &Record, zone_from: Option<Object>) -> ControlFlow<u16> {
         if holder[record::FLAGS] & credential_flag::OCCUPANCY_EXEMPTION != 0 {
             return Continue(());
         }
         let lower = point_flag::OCCUPANCY_LOWER_LIMIT_ENFORCED;
-        if let Some(index) = self.counting(zone_from, lower) {
-            let limit = get32(&self.site.records[index], zone::OCCUPANCY_LOWER_LIMIT);
-            if limit != UNSET && count_of(&self.state[index]) <= limit {
+        if let Some(zone) = self.counting(zone_from, lower) {
+            let limit = get32(&self.site.records[zone.record], zone::OCCUPANCY_LOWER_LIMIT);
+            if limit != UNSET && count_of(&self.state[zone.part]) <= limit {
                 return Break(event::DENIED_LOWER_OCCUPANCY_LIMIT);
             }
         }
         let upper = point_flag::OCCUPANCY_UPPER_LIMIT_ENFORCED;
-        if let Some(index) = self.counting(self.zone_to, upper) {
-            let limit = get32(&self.site.records[index], zone::OCCUPANCY_UPPER_LIMIT);
-            if limit != UNSET && count_of(&self.state[index]) >= limit {
+        if let Some(zone) = self.counting(self.zone_to, upper) {
+            let limit = get32(&self.site.records[zone.record], zone::OCCUPANCY_UPPER_LIMIT);
+            if limit != UNSET && count_of(&self.state[zone.part]) >= limit {
                 return Break(event::DENIED_UPPER_OCCUPANCY_LIMIT);
             }
         }
@@ -315,38 +315,42 @@ impl<'a, L: Lookup> FactorRead<'a, L> {
 
     /// The zone, where it counts and the point has the flag.
     #[inline]
-    fn counting(&self, zone: Option<usize>, flag: u8) -> Option<usize> {
+    fn counting(&self, zone: Option<Object>, flag: u8) -> Option<Object> {
         let counts = zone_flag::OCCUPANCY_COUNT_ENABLE;
-        zone.filter(|&index| {
-            self.has(flag) && self.site.records[index][record::FLAGS] & counts != 0
+        zone.filter(|zone| {
+            self.has(flag) && self.site.records[zone.record][record::FLAGS] & counts != 0
         })
     }
 
     /// Step 11, for everyone, and then the counts of a grant.
     #[inline]
-    fn adjust_counts(&mut self, zone_from: Option<usize>) -> ControlFlow<u16> {
+    fn adjust_counts(&mut self, zone_from: Option<Object>) -> ControlFlow<u16> {
         let adjust = point_flag::OCCUPANCY_COUNT_ADJUST;
-        if let Some(index) = self.counting(self.zone_to, adjust) {
-            let count = count_of(&self.state[index]);
+        if let Some(zone) = self.counting(self.zone_to, adjust) {
+            let count = count_of(&self.state[zone.part]);
             if count == MOST_COUNT {
                 return Break(event::DENIED_OTHER);
             }
             put32(
-                &mut self.state[index],
+                &mut self.state[zone.part],
                 zone_state::OCCUPANCY_COUNT,
                 count + 1,
             );
         }
-        if let Some(index) = self.counting(zone_from, adjust) {
-            let count = count_of(&self.state[index]).saturating_sub(1);
-            put32(&mut self.state[index], zone_state::OCCUPANCY_COUNT, count);
+        if let Some(zone) = self.counting(zone_from, adjust) {
+            let count = count_of(&self.state[zone.part]).saturating_sub(1);
+            put32(
+                &mut self.state[zone.part],
+                zone_state::OCCUPANCY_COUNT,
+                count,
+            );
         }
         Continue(())
     }
 
     /// What a grant changes besides the counts.
     #[inline]
-    fn grant(&mut self, holder: &Record, index: usize) {
+    fn grant(&mut self, holder: &Record, part: usize) {
         self.held_mut()[point_state::FAILED_ATTEMPTS] = 0;
         if self.has(point_flag::MUSTER_POINT) {
             self.marks |= mark::MUSTER;
@@ -358,7 +362,7 @@ impl<'a, L: Lookup> FactorRead<'a, L> {
             get32(self.point, point::ZONE_TO),
             get32(self.point, point::ZONE_FROM),
         );
-        let held = &mut self.state[index];
+        let held = &mut self.state[part];
         if zone_to != NONE {
             put32(held, credential_state::ZONE, zone_to);
             put32(held, credential_state::ENTERED, self.now);
@@ -397,14 +401,14 @@ impl<'a, L: Lookup> FactorRead<'a, L> {
     /// A wrong try of the credential waited for, where its most is set. At the most it is locked out.
     #[inline]
     fn count_wrong_try(&mut self, event: u16) {
-        let Some(index) = self.named.filter(|_| is_wrong_try(event)) else {
+        let Some(holder) = self.named.filter(|_| is_wrong_try(event)) else {
             return;
         };
-        let most = self.site.records[index][credential::MOST_WRONG_TRIES];
+        let most = self.site.records[holder.record][credential::MOST_WRONG_TRIES];
         if most == 0 {
             return;
         }
-        let held = &mut self.state[index];
+        let held = &mut self.state[holder.part];
         held[credential_state::WRONG_TRIES] += 1;
         if held[credential_state::WRONG_TRIES] < most {
             return;
@@ -417,15 +421,15 @@ impl<'a, L: Lookup> FactorRead<'a, L> {
     /// comes after step 5, which needs the earlier last use.
     #[inline]
     fn record_use(&mut self, event: u16) -> u32 {
-        let Some(index) = self.named else {
+        let Some(object) = self.named else {
             return NONE;
         };
-        let holder = &self.site.records[index];
+        let holder = &self.site.records[object.record];
         if holder[record::FLAGS] & credential_flag::TRACE_FLAG != 0 {
             self.marks |= mark::TRACE;
         }
         if event != event::NONE {
-            let held = &mut self.state[index];
+            let held = &mut self.state[object.part];
             put32(held, credential_state::LAST_USE_TIME, self.now);
             put16(held, credential_state::LAST_ACCESS_EVENT, event);
             let point = get32(self.point, record::INSTANCE);
@@ -436,7 +440,8 @@ impl<'a, L: Lookup> FactorRead<'a, L> {
 
     #[inline]
     fn count_of_zone_to(&self) -> u32 {
-        self.zone_to.map_or(0, |zone| count_of(&self.state[zone]))
+        self.zone_to
+            .map_or(0, |zone| count_of(&self.state[zone.part]))
     }
 }
 

@@ -2,7 +2,7 @@
 
 use crate::bytes::{get32, get64, Record};
 use crate::linear::scan_rules;
-use crate::lookup::{rights, Field, Lookup, Rule};
+use crate::lookup::{rights, Field, Lookup, Object, Rule};
 use reference::layout::{factor, record};
 use reference::numbers::{factor_role, kind, NONE};
 use std::cell::{Cell, OnceCell};
@@ -14,8 +14,28 @@ use std::ops::Range;
 /// The position of a record; a site has at most 2,000.
 type Place = u16;
 
-/// The place of what a field of NONE names.
-const NOWHERE: Place = Place::MAX;
+/// Where the records of an object stand, in half the room.
+#[derive(Clone, Copy)]
+struct Places {
+    record: Place,
+    part: Place,
+}
+
+/// The places of what a field of NONE names.
+const NOWHERE: Places = Places {
+    record: Place::MAX,
+    part: Place::MAX,
+};
+
+impl Places {
+    #[inline]
+    fn object(self) -> Object {
+        Object {
+            record: usize::from(self.record),
+            part: usize::from(self.part),
+        }
+    }
+}
 
 /// The bits of an instance.
 const INSTANCE_BITS: u32 = NONE.count_ones();
@@ -25,10 +45,10 @@ const SCANS: u32 = 8;
 
 pub struct Hashed {
     /// Zones, points and credentials by kind and instance.
-    objects: HashMap<u32, Place>,
+    objects: HashMap<u32, Places>,
     factors: HashMap<FactorKey, Place>,
     /// What each record names: found by the check that it exists, and kept.
-    named: Vec<[Place; 2]>,
+    named: Vec<[Places; 2]>,
     scans: Cell<u32>,
     rules: OnceCell<Rules>,
 }
@@ -83,6 +103,27 @@ fn key_of_factor(factor: &Record) -> FactorKey {
     factor_key(credential, factor[factor::FORMAT], value)
 }
 
+impl Hashed {
+    /// Takes a record into its map; false where it stands twice. As many objects as are in theirs have
+    /// state records before its own.
+    #[inline]
+    fn insert(&mut self, place: Place, record: &Record) -> bool {
+        let earlier = match record[record::KIND] {
+            kind::RULE => false,
+            kind::FACTOR => self.factors.insert(key_of_factor(record), place).is_some(),
+            kind => {
+                let key = object_key(kind, get32(record, record::INSTANCE));
+                let places = Places {
+                    record: place,
+                    part: self.objects.len() as Place,
+                };
+                self.objects.insert(key, places).is_some()
+            }
+        };
+        !earlier
+    }
+}
+
 impl Lookup for Hashed {
     fn new(records: &[Record]) -> Option<Hashed> {
         let rules = of_kind(records, kind::RULE).count();
@@ -95,16 +136,7 @@ impl Lookup for Hashed {
             rules: OnceCell::new(),
         };
         for (index, record) in records.iter().enumerate() {
-            let place = index as Place;
-            let earlier = match record[record::KIND] {
-                kind::RULE => None,
-                kind::FACTOR => hashed.factors.insert(key_of_factor(record), place),
-                kind => {
-                    let key = object_key(kind, get32(record, record::INSTANCE));
-                    hashed.objects.insert(key, place)
-                }
-            };
-            if earlier.is_some() {
+            if !hashed.insert(index as Place, record) {
                 return None;
             }
         }
@@ -112,9 +144,19 @@ impl Lookup for Hashed {
     }
 
     #[inline]
-    fn find(&self, _: &[Record], kind: u8, instance: u32) -> Option<usize> {
-        let place = self.objects.get(&object_key(kind, instance))?;
-        Some(usize::from(*place))
+    fn kept(&self, _: &[Record]) -> usize {
+        self.objects.len()
+    }
+
+    #[inline]
+    fn find(&self, _: &[Record], kind: u8, instance: u32) -> Option<Object> {
+        let places = self.objects.get(&object_key(kind, instance))?;
+        Some(places.object())
+    }
+
+    #[inline]
+    fn exists(&self, _: &[Record], kind: u8, instance: u32) -> bool {
+        self.objects.contains_key(&object_key(kind, instance))
     }
 
     #[inline]
@@ -123,17 +165,17 @@ impl Lookup for Hashed {
         if instance == NONE {
             return true;
         }
-        let Some(place) = self.objects.get(&object_key(field.kind, instance)) else {
+        let Some(places) = self.objects.get(&object_key(field.kind, instance)) else {
             return false;
         };
-        self.named[index][field.slot] = *place;
+        self.named[index][field.slot] = *places;
         true
     }
 
     #[inline]
-    fn named(&self, _: &[Record], index: usize, field: &Field) -> Option<usize> {
-        let place = self.named[index][field.slot];
-        (place != NOWHERE).then_some(usize::from(place))
+    fn named(&self, _: &[Record], index: usize, field: &Field) -> Option<Object> {
+        let places = self.named[index][field.slot];
+        (places.record != NOWHERE.record).then(|| places.object())
     }
 
     #[inline]

@@ -3,7 +3,7 @@
 use crate::answer::Answer;
 use crate::bytes::{get16, get32, get64, put32, Record};
 use crate::factor_read::FactorRead;
-use crate::lookup::{Lookup, ZONE_TO};
+use crate::lookup::{Lookup, Object, ZONE_TO};
 use crate::site::Site;
 use crate::state::well_formed;
 use reference::layout::{credential_state, entry, point_state, zone_state};
@@ -24,7 +24,7 @@ pub fn run_journal<L: Lookup>(
         Ok(accepted) => accepted,
         Err(refused) => return refused,
     };
-    if state.len() != site.len() {
+    if state.len() != accepted.state_length() {
         return refusal::STATE_LENGTH;
     }
     let (parts, _) = state.as_chunks_mut();
@@ -50,7 +50,7 @@ fn work<L: Lookup>(site: &Site<L>, state: &mut [Record], entry: &Entry) -> Answe
         return Answer::refused(refusal::ENTRY_FIELD);
     };
     let instance = get32(entry, entry::INSTANCE);
-    let Some(index) = site.find(kind, instance) else {
+    let Some(object) = site.find(kind, instance) else {
         return Answer::refused(refusal::ENTRY_MISSING);
     };
     let now = get32(entry, entry::TIME);
@@ -59,12 +59,12 @@ fn work<L: Lookup>(site: &Site<L>, state: &mut [Record], entry: &Entry) -> Answe
     match entry[entry::OPERATION] {
         operation::READ_FACTOR => {
             let value = get64(entry, entry::VALUE);
-            FactorRead::new(site, state, index, now).answer(argument, value)
+            FactorRead::new(site, state, object, now).answer(argument, value)
         }
-        operation::SET_COUNT => set_count(&mut state[index], amount),
-        operation::ADJUST_COUNT => adjust_count(&mut state[index], amount as i32),
+        operation::SET_COUNT => set_count(&mut state[object.part], amount),
+        operation::ADJUST_COUNT => adjust_count(&mut state[object.part], amount as i32),
         operation::SET_DISABLE => {
-            let held = &mut state[index];
+            let held = &mut state[object.part];
             held[credential_state::CREDENTIAL_DISABLE] = argument;
             held[credential_state::WRONG_TRIES] = 0;
             Answer {
@@ -72,7 +72,7 @@ fn work<L: Lookup>(site: &Site<L>, state: &mut [Record], entry: &Entry) -> Answe
                 ..Answer::EMPTY
             }
         }
-        _ => set_lockout(site, state, index, now, argument == 1),
+        _ => set_lockout(site, state, object, now, argument == 1),
     }
 }
 
@@ -122,11 +122,11 @@ fn adjust_count(zone: &mut Record, amount: i32) -> Answer {
 fn set_lockout<L: Lookup>(
     site: &Site<L>,
     state: &mut [Record],
-    index: usize,
+    object: Object,
     now: u32,
     lock: bool,
 ) -> Answer {
-    let point = &mut state[index];
+    let point = &mut state[object.part];
     let tag = gain_tag(point);
     point[point_state::LOCKOUT] = u8::from(lock);
     let event = if lock {
@@ -137,11 +137,11 @@ fn set_lockout<L: Lookup>(
         point[point_state::FAILED_ATTEMPTS] = 0;
         event::LOCKOUT_RELINQUISHED
     };
-    let zone_to = site.lookup.named(site.records, index, &ZONE_TO);
+    let zone_to = site.lookup.named(site.records, object.record, &ZONE_TO);
     Answer {
         event,
         tag,
-        count: zone_to.map_or(0, |zone| count_of(&state[zone])),
+        count: zone_to.map_or(0, |zone| count_of(&state[zone.part])),
         ..Answer::EMPTY
     }
 }

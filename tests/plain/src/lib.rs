@@ -14,6 +14,7 @@ mod factor_read;
 mod hashed;
 mod journal;
 mod linear;
+mod longer;
 mod lookup;
 mod range;
 mod rights;
@@ -28,6 +29,8 @@ pub const HASHED: Engine = Engine {
     check_site: site::check_site::<hashed::Hashed>,
     fresh_state: state::fresh_state::<hashed::Hashed>,
     run_journal: journal::run_journal::<hashed::Hashed>,
+    shorten_state: longer::shorten_state::<hashed::Hashed>,
+    lengthen_state: longer::lengthen_state::<hashed::Hashed>,
 };
 
 /// Records found by scans.
@@ -35,4 +38,6 @@ pub const LINEAR: Engine = Engine {
     check_site: site::check_site::<linear::Linear>,
     fresh_state: state::fresh_state::<linear::Linear>,
     run_journal: journal::run_journal::<linear::Linear>,
+    shorten_state: longer::shorten_state::<linear::Linear>,
+    lengthen_state: longer::lengthen_state::<linear::Linear>,
 };

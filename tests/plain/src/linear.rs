@@ -1,12 +1,22 @@
 //! Lookups by scans of the site.
 
 use crate::bytes::{get32, get64, word, Record};
-use crate::lookup::{rights, Field, Lookup, Rule};
+use crate::lookup::{is_kept, rights, Field, Lookup, Object, Rule};
 use reference::layout::{factor, record};
-use reference::numbers::{factor_role, kind, NONE};
+use reference::numbers::{factor_role, kind, MOST_SITE_BYTES, NONE, RECORD_LENGTH};
 use std::ops::ControlFlow::{self, Continue};
 
-pub struct Linear;
+pub struct Linear {
+    /// How many state records those before each block of the site have, so that a record's place in
+    /// the state takes no second scan of the site.
+    before: [u16; BLOCKS],
+    kept: usize,
+}
+
+/// The records of a block.
+const BLOCK: usize = 16;
+
+const BLOCKS: usize = (MOST_SITE_BYTES / RECORD_LENGTH).div_ceil(BLOCK);
 
 /// The bytes of a record's first word that hold kind and instance.
 const KEY: u64 = u64::from_ne_bytes([0xFF, 0, 0, 0, 0xFF, 0xFF, 0xFF, 0xFF]);
@@ -55,27 +65,64 @@ fn position(records: &[Record], fits: impl Fn(&Record) -> bool) -> Option<usize>
     Some(turns.len() * TURN + place)
 }
 
+/// How many state records these have.
+#[inline(always)]
+fn kept(records: &[Record]) -> usize {
+    records.iter().filter(|record| is_kept(record)).count()
+}
+
+impl Linear {
+    fn counted(records: &[Record]) -> Linear {
+        let mut before = [0; BLOCKS];
+        let mut count = 0;
+        for (block, before) in records.chunks(BLOCK).zip(&mut before) {
+            *before = count as u16;
+            count += kept(block);
+        }
+        Linear {
+            before,
+            kept: count,
+        }
+    }
+}
+
 impl Lookup for Linear {
     fn new(records: &[Record]) -> Option<Linear> {
         let mut places = records.iter().enumerate();
         let has_twins = places.any(|(index, record)| is_among(&records[..index], record));
-        (!has_twins).then_some(Linear)
+        (!has_twins).then(|| Linear::counted(records))
     }
 
     #[inline]
-    fn find(&self, records: &[Record], kind: u8, instance: u32) -> Option<usize> {
+    fn kept(&self, _: &[Record]) -> usize {
+        self.kept
+    }
+
+    #[inline]
+    fn find(&self, records: &[Record], kind: u8, instance: u32) -> Option<Object> {
         let key = key(kind, instance);
-        position(records, |record| key_of(record) == key)
+        let record = position(records, |record| key_of(record) == key)?;
+        let block = record / BLOCK;
+        Some(Object {
+            record,
+            part: usize::from(self.before[block]) + kept(&records[block * BLOCK..record]),
+        })
+    }
+
+    #[inline]
+    fn exists(&self, records: &[Record], kind: u8, instance: u32) -> bool {
+        let key = key(kind, instance);
+        position(records, |record| key_of(record) == key).is_some()
     }
 
     #[inline]
     fn link(&mut self, records: &[Record], index: usize, field: &Field) -> bool {
         let instance = field.instance(&records[index]);
-        instance == NONE || self.find(records, field.kind, instance).is_some()
+        instance == NONE || self.exists(records, field.kind, instance)
     }
 
     #[inline]
-    fn named(&self, records: &[Record], index: usize, field: &Field) -> Option<usize> {
+    fn named(&self, records: &[Record], index: usize, field: &Field) -> Option<Object> {
         let instance = field.instance(&records[index]);
         if instance == NONE {
             return None;

@@ -48,20 +48,43 @@ pub fn rights(credential: &Record) -> [u32; 2] {
     [credential::FIRST_RIGHTS, credential::SECOND_RIGHTS].map(|offset| get32(credential, offset))
 }
 
-/// Records are known by their position in the site.
+/// Where the records of a zone, point or credential stand.
+#[derive(Clone, Copy)]
+pub struct Object {
+    /// Among the records of the site.
+    pub record: usize,
+    /// Among those of the state.
+    pub part: usize,
+}
+
+/// Whether the state has a record for it.
+#[inline(always)]
+pub fn is_kept(record: &Record) -> bool {
+    matches!(
+        record[record::KIND],
+        kind::ZONE | kind::POINT | kind::CREDENTIAL
+    )
+}
+
 pub trait Lookup: Sized {
     /// Of records whose fields are in range; nothing where one stands twice.
     fn new(records: &[Record]) -> Option<Self>;
 
+    /// How many records the state has.
+    fn kept(&self, records: &[Record]) -> usize;
+
     /// The zone, point or credential of the instance, which is real.
-    fn find(&self, records: &[Record], kind: u8, instance: u32) -> Option<usize>;
+    fn find(&self, records: &[Record], kind: u8, instance: u32) -> Option<Object>;
+
+    fn exists(&self, records: &[Record], kind: u8, instance: u32) -> bool;
 
     /// Whether what a record names in the field is NONE or exists. `named` then hands it back.
     fn link(&mut self, records: &[Record], index: usize, field: &Field) -> bool;
 
     /// What a record names in the field, unless NONE.
-    fn named(&self, records: &[Record], index: usize, field: &Field) -> Option<usize>;
+    fn named(&self, records: &[Record], index: usize, field: &Field) -> Option<Object>;
 
+    /// The position of the factor.
     fn identifying(&self, records: &[Record], format: u8, value: u64) -> Option<usize>;
 
     fn confirming(
@@ -72,7 +95,7 @@ pub trait Lookup: Sized {
         value: u64,
     ) -> Option<usize>;
 
-    /// Shows the rules of a credential's rights numbers, until one breaks.
+    /// Shows the rules of the rights numbers of the credential at a position, until one breaks.
     fn each_rule(
         &self,
         records: &[Record],

@@ -1,10 +1,12 @@
 //! The site check, and the accepted site that a run works on.
 
 use crate::bytes::{get32, Record};
-use crate::lookup::{Lookup, OWNER, ZONE_FROM, ZONE_TO};
+use crate::lookup::{is_kept, Lookup, Object, OWNER, ZONE_FROM, ZONE_TO};
 use crate::range::in_range;
 use reference::layout::{record, rule};
-use reference::numbers::{kind, location_kind, refusal, rule_flag, MOST_SITE_BYTES, NONE};
+use reference::numbers::{
+    kind, location_kind, refusal, rule_flag, MOST_SITE_BYTES, NONE, RECORD_LENGTH,
+};
 
 /// An accepted site.
 pub struct Site<'a, L> {
@@ -40,13 +42,25 @@ impl<'a, L: Lookup> Site<'a, L> {
 
     /// The zone, point or credential of the instance, which is real.
     #[inline]
-    pub fn find(&self, kind: u8, instance: u32) -> Option<usize> {
+    pub fn find(&self, kind: u8, instance: u32) -> Option<Object> {
         self.lookup.find(self.records, kind, instance)
     }
 
     #[inline]
     pub fn none_or_exists(&self, kind: u8, instance: u32) -> bool {
-        instance == NONE || (instance < NONE && self.find(kind, instance).is_some())
+        instance == NONE || (instance < NONE && self.lookup.exists(self.records, kind, instance))
+    }
+
+    /// How many bytes of state it has.
+    #[inline]
+    pub fn state_length(&self) -> usize {
+        self.lookup.kept(self.records) * RECORD_LENGTH
+    }
+
+    /// The records that the state has records for.
+    #[inline]
+    pub fn kept(&self) -> impl Iterator<Item = &'a Record> {
+        self.records.iter().filter(|record| is_kept(record))
     }
 }
 
@@ -73,5 +87,5 @@ fn location_exists<L: Lookup>(lookup: &L, records: &[Record], record: &Record) -
         _ => kind::POINT,
     };
     let location = get32(record, rule::LOCATION);
-    lookup.find(records, kind, location).is_some()
+    lookup.exists(records, kind, location)
 }

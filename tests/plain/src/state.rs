@@ -11,11 +11,11 @@ pub fn fresh_state<L: Lookup>(site: &[u8], state: &mut [u8]) -> u8 {
         Ok(accepted) => accepted,
         Err(refused) => return refused,
     };
-    if state.len() != site.len() {
+    if state.len() != accepted.state_length() {
         return refusal::STATE_LENGTH;
     }
     let (parts, _) = state.as_chunks_mut();
-    for (record, part) in accepted.records.iter().zip(parts) {
+    for (record, part) in accepted.kept().zip(parts) {
         *part = fresh(record);
     }
     refusal::ACCEPTED
@@ -45,15 +45,21 @@ fn fresh_credential(record: &Record, part: &mut Record) {
     put32(part, credential_state::LAST_GRANT_TIME, NEVER);
 }
 
-/// Whether a state as long as the site is one that it allows.
+/// Whether a state as long as the site has it is one that it allows.
 pub fn well_formed<L: Lookup>(site: &Site<L>, state: &[Record]) -> bool {
-    let mut pairs = site.records.iter().zip(state);
-    pairs.all(|(record, part)| match record[record::KIND] {
+    let mut pairs = site.kept().zip(state);
+    pairs.all(|(record, part)| record_well_formed(site, record, part))
+}
+
+/// Whether a state record is one that the site allows its record; that of a rule or a factor is zero.
+#[inline]
+pub fn record_well_formed<L: Lookup>(site: &Site<L>, record: &Record, part: &Record) -> bool {
+    match record[record::KIND] {
         kind::ZONE => u64::from(half(part, 4)) | word(part, 8) | rest(part) == 0,
         kind::POINT => point_well_formed(site, record, part),
         kind::CREDENTIAL => credential_well_formed(site, record, part),
         _ => word(part, 0) | word(part, 8) | rest(part) == 0,
-    })
+    }
 }
 
 /// The second half of a record, zero where all its bytes are.

@@ -1,23 +1,24 @@
 //! Both engines beside the reference: what each call hands back and every byte of its buffers.
 
 use plain::{HASHED, LINEAR};
-use reference::build::{journal, EntryFields, Point, Record, Zone, FORMAT};
+use reference::build::{journal, EntryFields, Point, Record, Rule, Zone, FORMAT};
 use reference::engine::{Engine, REFERENCE};
 use reference::generate::clock::base_time;
 use reference::generate::damage::damage;
-use reference::generate::{self, case, large_site, Case};
+use reference::generate::{self, case, forms, large_site, orders_of_three, Case, Forms};
 use reference::numbers::{
     refusal, ANSWER_LENGTH, ENTRY_LENGTH, MOST_JOURNAL_BYTES, MOST_SITE_BYTES, RECORD_LENGTH,
 };
 use reference::occurrences::{Occurrences, REFUSALS};
-use reference::settings;
+use reference::state::state_length;
+use reference::{longer, settings, state};
 
 const CASES: usize = 40_000;
 
 const ENGINES: [(&str, Engine); 2] = [("hashed", HASHED), ("linear", LINEAR)];
 
 /// A call of one engine on the buffers that it takes of a case.
-type Call = fn(Engine, &mut Case) -> u8;
+type Call<B> = fn(Engine, &mut B) -> u8;
 
 fn check_site(engine: Engine, case: &mut Case) -> u8 {
     (engine.check_site)(&case.site)
@@ -32,15 +33,22 @@ fn run_journal(engine: Engine, case: &mut Case) -> u8 {
     (engine.run_journal)(site, &mut case.state, journal, &mut case.answers)
 }
 
-/// One call through all engines, left in the case. Panics where one disagrees with the reference.
-fn agreed(call: Call, case: &mut Case) -> u8 {
-    let before = case.clone();
-    let returned = call(REFERENCE, case);
+fn shorten_state(engine: Engine, forms: &mut Forms) -> u8 {
+    (engine.shorten_state)(&forms.site, &forms.longer, &mut forms.state)
+}
+
+fn lengthen_state(engine: Engine, forms: &mut Forms) -> u8 {
+    (engine.lengthen_state)(&forms.site, &forms.state, &mut forms.longer)
+}
+
+/// One call through all engines, left in the buffers. Panics where one disagrees with the reference.
+fn agreed<B: Clone + PartialEq>(call: Call<B>, buffers: &mut B) -> u8 {
+    let before = buffers.clone();
+    let returned = call(REFERENCE, buffers);
     for (name, engine) in ENGINES {
         let mut other = before.clone();
         assert_eq!(call(engine, &mut other), returned, "{name}");
-        assert!(other.state == case.state, "{name}: other state");
-        assert!(other.answers == case.answers, "{name}: other answers");
+        assert!(other == *buffers, "{name}: other bytes");
     }
     returned
 }
@@ -48,6 +56,11 @@ fn agreed(call: Call, case: &mut Case) -> u8 {
 /// The calls that come before the run, from the state that the case has.
 fn agreed_checks(case: &Case) -> [u8; 2] {
     [check_site, fresh_state].map(|call| agreed(call, &mut case.clone()))
+}
+
+/// Both ways between the forms, each from the same buffers.
+fn agreed_ways(forms: &Forms) -> [u8; 2] {
+    [shorten_state, lengthen_state].map(|way| agreed(way, &mut forms.clone()))
 }
 
 #[test]
@@ -64,6 +77,24 @@ fn random_and_damaged_cases() {
     settings::print("Plain engines, random and damaged cases", &occurrences);
     occurrences.assert_refusals(cases / 1_000, &Vec::from_iter(REFUSALS));
     occurrences.assert_events_and_marks(cases / 1_000);
+}
+
+#[test]
+fn random_and_damaged_forms_of_states() {
+    let cases = settings::cases(CASES);
+    let mut random = settings::random();
+    let mut occurrences = [Occurrences::default(), Occurrences::default()];
+    for _ in 0..cases {
+        let returned = agreed_ways(&forms(&mut random));
+        for (occurrences, returned) in occurrences.iter_mut().zip(returned) {
+            occurrences.count_call(returned);
+        }
+    }
+    let of_states = Vec::from_iter(refusal::SITE_LENGTH..=refusal::STATE_FORM);
+    for (way, occurrences) in ["shortened", "lengthened"].iter().zip(&occurrences) {
+        settings::print(&format!("Plain engines, states {way}"), occurrences);
+        occurrences.assert_refusals(cases / 1_000, &of_states);
+    }
 }
 
 /// Long journals on large sites, from the fresh state and from odd ones; and damage to the sites.
@@ -86,6 +117,12 @@ fn large_sites() {
             damage(&mut random, &mut damaged.site, RECORD_LENGTH);
             occurrences.count_call(agreed(check_site, &mut damaged));
         }
+        let forms = Forms {
+            longer: generate::longer_state(&mut random, base, &case.site),
+            state: case.state.clone(),
+            site: case.site.clone(),
+        };
+        assert_eq!(agreed_ways(&forms), [refusal::ACCEPTED; 2]);
         if round % 2 == 0 {
             agreed(fresh_state, &mut case);
         }
@@ -136,12 +173,14 @@ fn about(length: usize, unit: usize) -> Vec<usize> {
 
 #[test]
 fn state_journal_and_answers_lengths() {
-    let site = [Point::new(1).record(), Zone::new(1).record()].concat();
+    // A rule before each, so that its place in the state is another.
+    let rule = Rule::new(1).record();
+    let site = [rule, Point::new(1).record(), rule, Zone::new(1).record()].concat();
     let entry = EntryFields::read_factor(1, 1, FORMAT, [1; 8]);
     let mut occurrences = Occurrences::default();
     for entries in [2, MOST_JOURNAL_BYTES / ENTRY_LENGTH] {
         let mut case = Case {
-            state: vec![0; site.len()],
+            state: vec![0; 2 * RECORD_LENGTH],
             journal: journal(&vec![entry; entries]),
             answers: vec![0xA5; entries * ANSWER_LENGTH],
             site: site.clone(),
@@ -182,4 +221,30 @@ fn with_other_lengths(case: &Case) -> Vec<Case> {
         others.push(other);
     }
     others
+}
+
+/// Each order of three records of different kinds, with fresh states of all lengths about theirs.
+#[test]
+fn orders_of_three_records() {
+    let mut occurrences = Occurrences::default();
+    for site in orders_of_three() {
+        let mut fresh = Forms {
+            longer: vec![0; site.len()],
+            state: vec![0; state_length(&site)],
+            site,
+        };
+        longer::fresh_state(&fresh.site, &mut fresh.longer);
+        state::fresh_state(&fresh.site, &mut fresh.state);
+        for length in about(fresh.site.len(), RECORD_LENGTH) {
+            for state in 0..=fresh.site.len() + 1 {
+                let mut forms = fresh.clone();
+                forms.longer.resize(length, 0);
+                forms.state.resize(state, 0);
+                for returned in agreed_ways(&forms) {
+                    occurrences.count_call(returned);
+                }
+            }
+        }
+    }
+    occurrences.assert_refusals(2 * 42, &[refusal::SITE_MISSING, refusal::STATE_LENGTH]);
 }

@@ -12,7 +12,7 @@ use crate::numbers::{
     MINUTES_PER_DAY, NEVER, NONE, RECORD_LENGTH, UNLIMITED, VALUE_LENGTH,
 };
 use crate::site::find;
-use crate::state::state_at;
+use crate::state::{state_at, state_length};
 
 pub type Record = [u8; RECORD_LENGTH];
 
@@ -320,7 +320,7 @@ impl Panel {
     /// A panel in the fresh state. Panics where the site is turned back.
     pub fn fresh_by(engine: Engine, records: &[Record]) -> Panel {
         let site = records.concat();
-        let mut state = vec![0; site.len()];
+        let mut state = vec![0; state_length(&site)];
         let refused = (engine.fresh_state)(&site, &mut state);
         assert_eq!(refused, refusal::ACCEPTED, "the site is turned back");
         Panel {
@@ -351,6 +351,6 @@ impl Panel {
     /// The state record of an object. Panics where the site holds no such object.
     pub fn state_of(&self, kind: u8, instance: u32) -> &[u8] {
         let index = find(&self.site, kind, instance).expect("the site holds the object");
-        state_at(&self.state, index)
+        state_at(&self.site, &self.state, index)
     }
 }

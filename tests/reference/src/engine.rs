@@ -1,6 +1,7 @@
-//! The three calls as one value, so that a scenario runs through either engine.
+//! The calls as one value, so that a scenario runs through either engine.
 
 use crate::journal::run_journal;
+use crate::longer::{lengthen_state, shorten_state};
 use crate::site::check_site;
 use crate::state::fresh_state;
 
@@ -14,6 +15,10 @@ pub struct Engine {
     /// On site and state.
     pub fresh_state: fn(&[u8], &mut [u8]) -> u8,
     pub run_journal: RunJournal,
+    /// On site, longer state and state.
+    pub shorten_state: fn(&[u8], &[u8], &mut [u8]) -> u8,
+    /// On site, state and longer state.
+    pub lengthen_state: fn(&[u8], &[u8], &mut [u8]) -> u8,
 }
 
 /// The engine of this crate.
@@ -21,4 +26,6 @@ pub const REFERENCE: Engine = Engine {
     check_site,
     fresh_state,
     run_journal,
+    shorten_state,
+    lengthen_state,
 };

@@ -14,14 +14,14 @@ use crate::site::{
     find, instance_of, kind_of, record_at, records, CredentialRecord, FactorRecord, PointRecord,
     ZoneRecord,
 };
-use crate::state::{state_at, state_at_mut};
+use crate::state::State;
 use crate::time::{date, elapsed};
 use std::ops::ControlFlow::{self, Break, Continue};
 
-/// One factor read. Objects are known by their position in the site and in the state.
+/// One factor read. Objects are known by their place in the site.
 pub struct FactorRead<'a> {
     site: &'a [u8],
-    state: &'a mut [u8],
+    state: State<'a>,
     now: u32,
     format: u8,
     value: &'a [u8],
@@ -39,17 +39,14 @@ pub struct FactorRead<'a> {
 impl<'a> FactorRead<'a> {
     pub fn new(
         site: &'a [u8],
-        state: &'a mut [u8],
+        state: State<'a>,
         point_index: usize,
         now: u32,
         format: u8,
         value: &'a [u8],
     ) -> FactorRead<'a> {
         let point = PointRecord(record_at(site, point_index));
-        let waited_for = get32(
-            state_at(state, point_index),
-            point_state::WAITING_CREDENTIAL,
-        );
+        let waited_for = get32(state.at(point_index), point_state::WAITING_CREDENTIAL);
         FactorRead {
             site,
             state,
@@ -202,7 +199,7 @@ impl<'a> FactorRead<'a> {
 
     /// Step 5. Uses, days and disable are those of the state.
     fn check_active(&self, index: usize, credential: &CredentialRecord) -> ControlFlow<u16> {
-        let held = state_at(self.state, index);
+        let held = self.state.at(index);
         if self.now < credential.activation_time() {
             return Break(event::DENIED_CREDENTIAL_NOT_YET_ACTIVE);
         }
@@ -256,7 +253,7 @@ impl<'a> FactorRead<'a> {
 
     /// Step 10, passback. It asks for no counting; the product passes 32 bits.
     fn check_passback(&mut self, index: usize, credential: &CredentialRecord) -> ControlFlow<u16> {
-        let held = state_at(self.state, index);
+        let held = self.state.at(index);
         let Some(zone_to) = self.zone_to else {
             return Continue(());
         };
@@ -311,7 +308,7 @@ impl<'a> FactorRead<'a> {
     fn counting(&self, zone: Option<usize>, flag: u8) -> Option<(ZoneRecord<'a>, u32)> {
         let index = zone?;
         let record = ZoneRecord(record_at(self.site, index));
-        (self.point.has(flag) && record.counting()).then(|| (record, count_at(self.state, index)))
+        (self.point.has(flag) && record.counting()).then(|| (record, count_at(&self.state, index)))
     }
 
     /// Step 12 and the grant.
@@ -325,7 +322,7 @@ impl<'a> FactorRead<'a> {
         if credential.has(credential_flag::EXTENDED_TIME_ENABLE) {
             self.marks |= mark::EXTENDED_PULSE_UNLOCK;
         }
-        let held = state_at_mut(self.state, index);
+        let held = self.state.at_mut(index);
         move_credential(held, &self.point, self.now);
         spend_use(held);
         spend_day(held, self.now);
@@ -350,7 +347,7 @@ impl<'a> FactorRead<'a> {
     }
 
     fn put_count(&mut self, zone: usize, count: u32) {
-        let held = state_at_mut(self.state, zone);
+        let held = self.state.at_mut(zone);
         put32(held, zone_state::OCCUPANCY_COUNT, count);
     }
 
@@ -392,7 +389,7 @@ impl<'a> FactorRead<'a> {
         if u32::from(most) == UNSET {
             return;
         }
-        let held = state_at_mut(self.state, index);
+        let held = self.state.at_mut(index);
         let tries = held[credential_state::WRONG_TRIES] + 1;
         if tries < most {
             held[credential_state::WRONG_TRIES] = tries;
@@ -414,7 +411,7 @@ impl<'a> FactorRead<'a> {
         if event == event::NONE {
             return;
         }
-        let held = state_at_mut(self.state, index);
+        let held = self.state.at_mut(index);
         put32(held, credential_state::LAST_USE_TIME, self.now);
         put16(held, credential_state::LAST_ACCESS_EVENT, event);
         put32(
@@ -438,15 +435,15 @@ impl<'a> FactorRead<'a> {
     }
 
     fn count_of_zone_to(&self) -> u32 {
-        self.zone_to.map_or(0, |zone| count_at(self.state, zone))
+        self.zone_to.map_or(0, |zone| count_at(&self.state, zone))
     }
 
     fn point_state(&self) -> &[u8] {
-        state_at(self.state, self.point_index)
+        self.state.at(self.point_index)
     }
 
     fn point_state_mut(&mut self) -> &mut [u8] {
-        state_at_mut(self.state, self.point_index)
+        self.state.at_mut(self.point_index)
     }
 
     /// Elapsed since a time that the point's state record holds.

@@ -8,32 +8,38 @@ use crate::layout::{credential_state, point_state, zone_state};
 use crate::numbers::{
     event, kind, refusal, ANSWER_LENGTH, ENTRY_LENGTH, MOST_COUNT, MOST_JOURNAL_BYTES, NONE,
 };
-use crate::site::{check_site, find, record_at, PointRecord};
-use crate::state::{state_at, state_at_mut, well_formed};
+use crate::site::{find, record_at, PointRecord};
+use crate::state::{Form, State, SHORTER};
 
 /// Works the journal's entries in order, each with one answer.
 /// Turned back with 1 to 6, 10 or 11, and then nothing is written.
 pub fn run_journal(site: &[u8], state: &mut [u8], journal: &[u8], answers: &mut [u8]) -> u8 {
-    let refused = check_run(site, state, journal, answers);
+    run_journal_on(&SHORTER, site, state, journal, answers)
+}
+
+/// As `run_journal`, on a state of the form.
+pub(crate) fn run_journal_on(
+    form: &Form,
+    site: &[u8],
+    bytes: &mut [u8],
+    journal: &[u8],
+    answers: &mut [u8],
+) -> u8 {
+    let refused = check_run(form, site, bytes, journal, answers);
     if refused != refusal::ACCEPTED {
         return refused;
     }
-    for (bytes, answer) in entries(journal).zip(answers.chunks_exact_mut(ANSWER_LENGTH)) {
-        answer.copy_from_slice(&work_entry(site, state, bytes).to_bytes());
+    for (entry, answer) in entries(journal).zip(answers.chunks_exact_mut(ANSWER_LENGTH)) {
+        let state = State { site, bytes, form };
+        answer.copy_from_slice(&work_entry(site, state, entry).to_bytes());
     }
     refusal::ACCEPTED
 }
 
-fn check_run(site: &[u8], state: &[u8], journal: &[u8], answers: &[u8]) -> u8 {
-    let refused = check_site(site);
+fn check_run(form: &Form, site: &[u8], state: &[u8], journal: &[u8], answers: &[u8]) -> u8 {
+    let refused = (form.check_state)(site, state);
     if refused != refusal::ACCEPTED {
         return refused;
-    }
-    if state.len() != site.len() {
-        return refusal::STATE_LENGTH;
-    }
-    if !well_formed(site, state) {
-        return refusal::STATE_FORM;
     }
     if !journal.len().is_multiple_of(ENTRY_LENGTH) || journal.len() > MOST_JOURNAL_BYTES {
         return refusal::JOURNAL_LENGTH;
@@ -44,27 +50,27 @@ fn check_run(site: &[u8], state: &[u8], journal: &[u8], answers: &[u8]) -> u8 {
     refusal::ACCEPTED
 }
 
-fn work_entry(site: &[u8], state: &mut [u8], bytes: &[u8]) -> Answer {
+fn work_entry(site: &[u8], mut state: State, bytes: &[u8]) -> Answer {
     let Some(entry) = Entry::read(bytes) else {
         return Answer::refused(refusal::ENTRY_FIELD);
     };
-    let Some(index) = find(site, entry.action.object_kind(), entry.instance) else {
+    let Some(place) = find(site, entry.action.object_kind(), entry.instance) else {
         return Answer::refused(refusal::ENTRY_MISSING);
     };
     match entry.action {
         Action::ReadFactor { format, value } => {
-            FactorRead::new(site, state, index, entry.time, format, value).answer()
+            FactorRead::new(site, state, place, entry.time, format, value).answer()
         }
-        Action::SetCount { amount } => set_count(state_at_mut(state, index), amount),
-        Action::AdjustCount { amount } => adjust_count(state_at_mut(state, index), amount),
+        Action::SetCount { amount } => set_count(state.at_mut(place), amount),
+        Action::AdjustCount { amount } => adjust_count(state.at_mut(place), amount),
         Action::SetDisable { disable } => {
-            set_disable(state_at_mut(state, index), disable);
+            set_disable(state.at_mut(place), disable);
             Answer {
                 credential: entry.instance,
                 ..Answer::EMPTY
             }
         }
-        Action::SetLockout { lock } => set_lockout(site, state, index, entry.time, lock),
+        Action::SetLockout { lock } => set_lockout(site, state, place, entry.time, lock),
     }
 }
 
@@ -92,8 +98,8 @@ fn set_disable(credential: &mut [u8], disable: u8) {
 }
 
 /// Operation 5. It works at a point out of service too.
-fn set_lockout(site: &[u8], state: &mut [u8], index: usize, now: u32, lock: bool) -> Answer {
-    let point = state_at_mut(state, index);
+fn set_lockout(site: &[u8], mut state: State, place: usize, now: u32, lock: bool) -> Answer {
+    let point = state.at_mut(place);
     let tag = gain_tag(point);
     point[point_state::LOCKOUT] = u8::from(lock);
     if lock {
@@ -102,7 +108,7 @@ fn set_lockout(site: &[u8], state: &mut [u8], index: usize, now: u32, lock: bool
     } else {
         point[point_state::FAILED_ATTEMPTS] = 0;
     }
-    let zone_to = PointRecord(record_at(site, index)).zone_to();
+    let zone_to = PointRecord(record_at(site, place)).zone_to();
     Answer {
         event: if lock {
             event::LOCKOUT_OTHER
@@ -110,7 +116,7 @@ fn set_lockout(site: &[u8], state: &mut [u8], index: usize, now: u32, lock: bool
             event::LOCKOUT_RELINQUISHED
         },
         tag,
-        count: find(site, kind::ZONE, zone_to).map_or(0, |zone| count_at(state, zone)),
+        count: find(site, kind::ZONE, zone_to).map_or(0, |zone| count_at(&state, zone)),
         ..Answer::EMPTY
     }
 }
@@ -122,7 +128,7 @@ pub(crate) fn gain_tag(point: &mut [u8]) -> u32 {
     tag
 }
 
-/// The Occupancy_Count of the zone at a position.
-pub(crate) fn count_at(state: &[u8], zone: usize) -> u32 {
-    get32(state_at(state, zone), zone_state::OCCUPANCY_COUNT)
+/// The Occupancy_Count of the zone at a place.
+pub(crate) fn count_at(state: &State, zone: usize) -> u32 {
+    get32(state.at(zone), zone_state::OCCUPANCY_COUNT)
 }

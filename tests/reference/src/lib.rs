@@ -16,6 +16,7 @@ mod factor_read;
 pub mod generate;
 pub mod journal;
 pub mod layout;
+pub mod longer;
 pub mod numbers;
 pub mod occurrences;
 pub mod one_point;

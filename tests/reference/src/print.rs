@@ -2,6 +2,7 @@
 
 use crate::engine::{Engine, REFERENCE};
 use crate::numbers::{refusal, ANSWER_LENGTH, ENTRY_LENGTH};
+use crate::state::state_length;
 use std::fmt::Write;
 
 /// What this crate's engine prints.
@@ -12,7 +13,7 @@ pub fn print_journal(site: &[u8], journal: &[u8]) -> String {
 /// From the fresh state, one line of hexadecimal digits for each answer; of an input turned back,
 /// only the number.
 pub fn print_by(engine: Engine, site: &[u8], journal: &[u8]) -> String {
-    let mut state = vec![0; site.len()];
+    let mut state = vec![0; state_length(site)];
     let refused = (engine.fresh_state)(site, &mut state);
     if refused != refusal::ACCEPTED {
         return format!("{refused}\n");

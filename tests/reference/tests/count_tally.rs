@@ -9,7 +9,7 @@ use reference::journal::run_journal;
 use reference::layout::{answer, entry, zone_state};
 use reference::numbers::{event, kind, operation, point_flag, refusal, ANSWER_LENGTH};
 use reference::site::{find, instance_of, kind_of, record_at, records, PointRecord, ZoneRecord};
-use reference::state::{fresh_state, state_at};
+use reference::state::{fresh_state, state_at, state_length};
 
 /// A zone's tally. It reads the site, the entries and, of their answers, event and refusal.
 #[derive(Clone, Copy, Default)]
@@ -97,7 +97,7 @@ fn run_one(
 fn run_list(random: &mut Random, reached: &mut Reached) {
     let base = base_time(random);
     let site = site(random, base);
-    let mut state = vec![0; site.len()];
+    let mut state = vec![0; state_length(&site)];
     assert_eq!(fresh_state(&site, &mut state), refusal::ACCEPTED);
     let mut tallies = vec![Tally::default(); records(&site).count()];
     for _ in 0..random.below(6) {
@@ -109,7 +109,7 @@ fn run_list(random: &mut Random, reached: &mut Reached) {
         if kind_of(record) != kind::ZONE {
             continue;
         }
-        let count = get32(state_at(&state, index), zone_state::OCCUPANCY_COUNT);
+        let count = get32(state_at(&site, &state, index), zone_state::OCCUPANCY_COUNT);
         assert_eq!(i128::from(count), tally.count());
         reached.zones += 1;
         reached.below_zero += usize::from(tally.l < 0);

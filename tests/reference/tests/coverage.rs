@@ -15,7 +15,7 @@ use reference::layout::{credential, credential_state, rule};
 use reference::numbers::{event, kind, refusal, MINUTES_PER_DAY, RECORD_LENGTH};
 use reference::occurrences::{assert_often, Occurrences, REFUSALS};
 use reference::site::{check_site, kind_of, records, CredentialRecord};
-use reference::state::{fresh_state, well_formed};
+use reference::state::{fresh_state, kept_records, state_length, well_formed};
 use std::collections::BTreeMap;
 use std::fmt::Debug;
 use std::ops::Range;
@@ -103,7 +103,7 @@ fn the_fresh_state_stops_after_refusal_5() {
         let check = check_site(&case.site);
         if check != refusal::ACCEPTED {
             assert_eq!((returned, &case.state), (check, &before));
-        } else if before.len() != case.site.len() {
+        } else if before.len() != state_length(&case.site) {
             assert_eq!((returned, &case.state), (refusal::STATE_LENGTH, &before));
         } else {
             assert_eq!(returned, refusal::ACCEPTED);
@@ -271,7 +271,7 @@ fn beyond_the_most(tries: u8, most: u8) -> Option<&'static str> {
 fn without_wrong_tries(site: &[u8], state: &[u8]) -> (Vec<u8>, Vec<&'static str>) {
     let mut state = state.to_vec();
     let mut beyond = Vec::new();
-    for (record, part) in records(site).zip(state.chunks_exact_mut(RECORD_LENGTH)) {
+    for (record, part) in kept_records(site).zip(state.chunks_exact_mut(RECORD_LENGTH)) {
         if kind_of(record) == kind::CREDENTIAL {
             let tries = std::mem::take(&mut part[credential_state::WRONG_TRIES]);
             let most = CredentialRecord(record).most_wrong_tries();
@@ -376,7 +376,7 @@ const SPARE: Range<usize> = credential_state::LAST_GRANT_TIME + 4..RECORD_LENGTH
 /// The state with these bytes of all credentials at zero.
 fn without_spare_bytes(site: &[u8], state: &[u8]) -> Vec<u8> {
     let mut state = state.to_vec();
-    for (record, part) in records(site).zip(state.chunks_exact_mut(RECORD_LENGTH)) {
+    for (record, part) in kept_records(site).zip(state.chunks_exact_mut(RECORD_LENGTH)) {
         if kind_of(record) == kind::CREDENTIAL {
             part[SPARE].fill(0);
         }

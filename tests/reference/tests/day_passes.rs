@@ -11,7 +11,7 @@ use reference::journal::run_journal;
 use reference::layout::{credential_state, entry};
 use reference::numbers::{event, kind, refusal, ANSWER_LENGTH, NEVER, SECONDS_PER_DAY, UNLIMITED};
 use reference::site::{instance_of, kind_of, records, CredentialRecord};
-use reference::state::{fresh_state, state_at};
+use reference::state::{fresh_state, state_at, state_length};
 use reference::time::date;
 use std::collections::{BTreeMap, BTreeSet};
 
@@ -88,7 +88,7 @@ fn see_credential(days: u16, left: u16, times: &[u32], reached: &mut Reached) {
 fn run_list(random: &mut Random, reached: &mut Reached) {
     let mut base = base_time(random);
     let site = site(random, base);
-    let mut state = vec![0; site.len()];
+    let mut state = vec![0; state_length(&site)];
     assert_eq!(fresh_state(&site, &mut state), refusal::ACCEPTED);
     let mut grants = Grants::new();
     for _ in 0..random.below(8) {
@@ -103,7 +103,10 @@ fn run_list(random: &mut Random, reached: &mut Reached) {
         if kind_of(record) != kind::CREDENTIAL || days == UNLIMITED {
             continue;
         }
-        let left = get16(state_at(&state, index), credential_state::DAYS_REMAINING);
+        let left = get16(
+            state_at(&site, &state, index),
+            credential_state::DAYS_REMAINING,
+        );
         let times = grants.remove(&instance_of(record)).unwrap_or_default();
         see_credential(days, left, &times, reached);
     }

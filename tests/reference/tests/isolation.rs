@@ -14,7 +14,7 @@ use reference::numbers::{
     RECORD_LENGTH,
 };
 use reference::site::{instance_of, kind_of, records};
-use reference::state::fresh_state;
+use reference::state::{fresh_state, is_kept, state_length};
 use std::ops::Range;
 
 /// The numbers of the east wing; all others belong to the west wing.
@@ -53,6 +53,17 @@ impl Mixed {
     /// As `west_of`, for the east wing.
     fn east_of(&self, bytes: &[u8], unit: usize) -> Vec<u8> {
         self.units_of(bytes, unit, false)
+    }
+
+    /// The west wing's state records, where the units are the records of a site.
+    fn west_state(&self, state: &[u8]) -> Vec<u8> {
+        let owned = records(&self.bytes).zip(&self.west);
+        owned
+            .filter(|(record, _)| is_kept(record))
+            .zip(records(state))
+            .filter(|((_, is_west), _)| **is_west)
+            .flat_map(|(_, part)| part.to_vec())
+            .collect()
     }
 
     fn units_of(&self, bytes: &[u8], unit: usize, west: bool) -> Vec<u8> {
@@ -106,7 +117,7 @@ fn east_journal(random: &mut Random, base: u32, site: &[u8]) -> Vec<u8> {
 
 /// Works the entries from the fresh state as a list of journals, cut at random.
 fn run_list(random: &mut Random, site: &[u8], entries: &[u8]) -> (Vec<u8>, Vec<u8>) {
-    let mut state = vec![0; site.len()];
+    let mut state = vec![0; state_length(site)];
     assert_eq!(fresh_state(site, &mut state), refusal::ACCEPTED);
     let mut answers = Vec::new();
     let mut rest = entries;
@@ -151,7 +162,7 @@ fn run_with_an_east_wing(
     let (answers, state) = run_list(random, &site.bytes, &journal.bytes);
     east_reached.add(&journal.east_of(&answers, ANSWER_LENGTH));
     let west_answers = journal.west_of(&answers, ANSWER_LENGTH);
-    (west_answers, site.west_of(&state, RECORD_LENGTH))
+    (west_answers, site.west_state(&state))
 }
 
 #[test]

@@ -5,6 +5,7 @@ use reference::build::{Credential, EntryFields, Factor, Panel, Point, Record, Ru
 use reference::generate::{large_site, Random};
 use reference::journal::run_journal;
 use reference::layout::entry;
+use reference::longer::lengthened;
 use reference::numbers::{
     factor_role, kind, location_kind, refusal, rule_flag, zone_flag, ANSWER_LENGTH, ENTRY_LENGTH,
     MOST_JOURNAL_BYTES, MOST_SITE_BYTES, NEVER, NONE, RECORD_LENGTH,
@@ -220,25 +221,27 @@ fn a_missing_zone_point_or_credential() {
 #[test]
 fn a_fresh_state_is_well_formed_and_holds_the_bytes_of_the_paper() {
     let site = records().concat();
-    let mut state = vec![0xFF; site.len()];
+    let mut state = vec![0xFF; 96];
     assert_eq!(fresh_state(&site, &mut state), refusal::ACCEPTED);
     assert!(well_formed(&site, &state));
-    let mut expected = vec![0; site.len()];
+    let mut expected = vec![0; 96];
     expected[32 + 16..32 + 20].copy_from_slice(&[0, 0x3F, 0xFF, 0xFF]);
-    let credential = &mut expected[96..128];
+    let credential = &mut expected[64..96];
     credential[..8].fill(0xFF);
     credential[8..12].copy_from_slice(&[0, 0x3F, 0xFF, 0xFF]);
     credential[12..16].fill(0xFF);
     credential[20..24].copy_from_slice(&[0, 0x3F, 0xFF, 0xFF]);
     credential[24..28].fill(0xFF);
     assert_eq!(state, expected);
-    let mut short = vec![0xFF; site.len() - 1];
-    assert_eq!(fresh_state(&site, &mut short), refusal::STATE_LENGTH);
-    assert!(short.iter().all(|&byte| byte == 0xFF));
+    for length in [0, 64, 95, 97, 128, site.len()] {
+        let mut other = vec![0xFF; length];
+        assert_eq!(fresh_state(&site, &mut other), refusal::STATE_LENGTH);
+        assert!(other.iter().all(|&byte| byte == 0xFF));
+    }
 }
 
 /// Whether the fresh state is well formed after the bytes at these offsets are changed. The state
-/// records stand at 0 (zone), 32 (point), 64 (rule), 96 (credential) and 128 (factor).
+/// records stand at 0 (zone), 32 (point) and 64 (credential).
 fn well_formed_with(changes: &[(usize, u8)]) -> bool {
     let mut panel = Panel::fresh(&records());
     for &(offset, byte) in changes {
@@ -249,16 +252,16 @@ fn well_formed_with(changes: &[(usize, u8)]) -> bool {
 
 #[test]
 fn fields_of_a_state_out_of_range() {
-    assert!(well_formed_with(&[(0, 255), (32, 255), (96 + 16, 9)]));
+    assert!(well_formed_with(&[(0, 255), (32, 255), (64 + 16, 9)]));
     assert!(well_formed_with(&[(32 + 5, 1)]), "locked");
     assert!(!well_formed_with(&[(32 + 5, 2)]), "neither locked nor not");
     assert!(well_formed_with(&[(32 + 4, 2)]), "failures below the most");
     assert!(!well_formed_with(&[(32 + 4, 3)]), "failures at the most");
-    assert!(well_formed_with(&[(96 + 18, 3)]), "the last disable");
-    assert!(!well_formed_with(&[(96 + 18, 4)]), "a disable beyond it");
-    let last_grant = [(96 + 24, 0), (96 + 25, 1), (96 + 26, 2), (96 + 27, 3)];
+    assert!(well_formed_with(&[(64 + 18, 3)]), "the last disable");
+    assert!(!well_formed_with(&[(64 + 18, 4)]), "a disable beyond it");
+    let last_grant = [(64 + 24, 0), (64 + 25, 1), (64 + 26, 2), (64 + 27, 3)];
     assert!(well_formed_with(&last_grant), "any last grant");
-    for spare in [4, 31, 38, 39, 56, 63, 64, 95, 124, 127, 128, 159] {
+    for spare in [4, 31, 38, 39, 56, 63, 92, 95] {
         assert!(!well_formed_with(&[(spare, 1)]), "spare byte {spare}");
     }
 }
@@ -270,9 +273,9 @@ fn wrong_tries_of_a_state_are_below_the_most_and_zero_where_it_is_unset() {
         let mut credential = credential;
         credential[22] = most;
         let mut panel = Panel::fresh(&[zone, point, rule, credential, factor]);
-        assert_eq!(panel.state[96 + 19], 0);
+        assert_eq!(panel.state[64 + 19], 0);
         for tries in 0..=255 {
-            panel.state[96 + 19] = tries;
+            panel.state[64 + 19] = tries;
             let is_sound = tries == 0 || tries < most;
             let place = (most, tries);
             assert_eq!(
@@ -288,7 +291,7 @@ fn wrong_tries_of_a_state_are_below_the_most_and_zero_where_it_is_unset() {
 fn references_of_a_state_are_none_or_exist_and_locked_points_wait_for_nobody() {
     let refers =
         |offset: usize, instance: u8| [(offset + 1, 0), (offset + 2, 0), (offset + 3, instance)];
-    for reference in [32 + 16, 96 + 8, 96 + 20] {
+    for reference in [32 + 16, 64 + 8, 64 + 20] {
         assert!(well_formed_with(&refers(reference, 7)), "{reference}");
         assert!(!well_formed_with(&refers(reference, 8)), "{reference}");
     }
@@ -304,7 +307,7 @@ fn a_run_is_turned_back_in_the_order_of_the_table() {
     let spare = with_byte(0, 31, 1);
     let twice = [&sound.site[..], &sound.site[..32]].concat();
     let missing = &sound.site[32..];
-    let spoiled = [&sound.state[..159], &[1]].concat();
+    let spoiled = [&sound.state[..95], &[1]].concat();
     let run = |site: &[u8], state: &[u8], journal: usize, answers: usize| {
         let mut state = state.to_vec();
         let mut answers = vec![9; answers];
@@ -323,6 +326,8 @@ fn a_run_is_turned_back_in_the_order_of_the_table() {
     assert_eq!(run(missing, &spoiled, 25, 15), refusal::SITE_MISSING);
     let site = &sound.site;
     assert_eq!(run(site, &spoiled[1..], 25, 15), refusal::STATE_LENGTH);
+    let longer = lengthened(site, &sound.state);
+    assert_eq!(run(site, &longer, 25, 15), refusal::STATE_LENGTH);
     assert_eq!(run(site, &spoiled, 25, 15), refusal::STATE_FORM);
     assert_eq!(run(site, &sound.state, 25, 15), refusal::JOURNAL_LENGTH);
     assert_eq!(run(site, &sound.state, 24, 15), refusal::ANSWERS_LENGTH);

@@ -13,6 +13,7 @@ fn every_scenario_is_listed() {
         include_str!("../src/scenarios/midnight.rs"),
         include_str!("../src/scenarios/misreadings.rs"),
         include_str!("../src/scenarios/paper_cases.rs"),
+        include_str!("../src/scenarios/standby.rs"),
         include_str!("../src/scenarios/wrong_codes.rs"),
     ] {
         let starts = text.lines().filter_map(|line| line.strip_prefix("pub fn "));

@@ -15,7 +15,7 @@ use reference::numbers::{
     SECONDS_PER_DAY,
 };
 use reference::site::{instance_of, kind_of, records, CredentialRecord, PointRecord};
-use reference::state::{fresh_state, state_at};
+use reference::state::{fresh_state, state_at, state_length};
 use reference::time::elapsed;
 use std::collections::BTreeSet;
 
@@ -205,12 +205,12 @@ impl Told {
 
     fn see(&self, site: &[u8], state: &[u8], reached: &mut Reached) {
         for (index, record) in records(site).enumerate() {
-            let part = state_at(state, index);
             match kind_of(record) {
                 kind::CREDENTIAL => {
+                    let part = state_at(site, state, index);
                     self.tries[index].see(&CredentialRecord(record), part, reached);
                 }
-                kind::POINT => self.failures[index].see(part, reached),
+                kind::POINT => self.failures[index].see(state_at(site, state, index), reached),
                 _ => {}
             }
         }
@@ -220,7 +220,7 @@ impl Told {
 fn run_list(random: &mut Random, reached: &mut Reached) {
     let mut base = base_time(random);
     let site = site(random, base);
-    let mut state = vec![0; site.len()];
+    let mut state = vec![0; state_length(&site)];
     assert_eq!(fresh_state(&site, &mut state), refusal::ACCEPTED);
     let mut told = Told::fresh(&site);
     for run in 0..random.below(8) {

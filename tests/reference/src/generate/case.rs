@@ -1,13 +1,15 @@
 //! Whole cases: the input of one journal run.
 
 use super::clock::base_time;
-use super::damage::{answers_length, damage, damage_last_grant, damage_wrong_tries, overlong};
+use super::damage::{
+    answers_length, damage, damage_last_grant, damage_length, damage_wrong_tries, overlong,
+};
 use super::random::Random;
 use super::{journals, sites, states};
 use crate::numbers::{
     refusal, ANSWER_LENGTH, ENTRY_LENGTH, MOST_JOURNAL_BYTES, MOST_SITE_BYTES, RECORD_LENGTH,
 };
-use crate::state::fresh_state;
+use crate::state::{fresh_state, state_length};
 
 /// The buffers of one journal run. The answers hold bytes that a run must overwrite, or leave
 /// where it is turned back.
@@ -69,8 +71,8 @@ pub fn list_run(random: &mut Random, base: u32, site: &[u8], most: usize) -> (Ve
     (journal, vec![0; answers_size])
 }
 
-/// Damages a state in some of four ways, or in none.
-fn damage_state(random: &mut Random, site: &[u8], state: &mut Vec<u8>) {
+/// Damages a state in some of five ways, or in none.
+pub fn damage_state(random: &mut Random, site: &[u8], state: &mut Vec<u8>) {
     if random.sixteenths(3) {
         damage(random, state, RECORD_LENGTH);
     }
@@ -83,11 +85,14 @@ fn damage_state(random: &mut Random, site: &[u8], state: &mut Vec<u8>) {
     if random.sixteenths(2) {
         damage_wrong_tries(random, site, state);
     }
+    if random.sixteenths(2) {
+        damage_length(random, site, state);
+    }
 }
 
 /// The fresh state or an odd one; of a site turned back, an odd one as far as it has whole records.
 fn starting_state(random: &mut Random, base: u32, site: &[u8]) -> Vec<u8> {
-    let mut state = vec![random.byte(); site.len()];
+    let mut state = vec![random.byte(); state_length(site)];
     if random.sixteenths(8) && fresh_state(site, &mut state) == refusal::ACCEPTED {
         return state;
     }

@@ -5,8 +5,10 @@ use super::sites::MISSING;
 use super::states::not_below;
 use crate::bytes::{get16, get32, put16, put32};
 use crate::layout::{credential, credential_state, record, rule};
+use crate::longer::lengthened;
 use crate::numbers::{kind, ANSWER_LENGTH, ENTRY_LENGTH, MINUTES_PER_DAY, NONE, RECORD_LENGTH};
-use crate::site::{kind_of, records, CredentialRecord};
+use crate::site::{kind_of, CredentialRecord};
+use crate::state::kept_records;
 
 /// Damages bytes that hold units (records or entries) of one length. The outcome may by chance
 /// be sound.
@@ -51,13 +53,40 @@ pub fn damage_wrong_tries(random: &mut Random, site: &[u8], state: &mut [u8]) {
     };
 }
 
+/// Makes a state one of another length or of another site: the longer one, one with a record less or
+/// more, or one of as many zones, points and credentials in another order, often of two alone.
+pub fn damage_length(random: &mut Random, site: &[u8], state: &mut Vec<u8>) {
+    match random.below(5) {
+        0 => *state = lengthened(site, state),
+        1 if state.len() >= RECORD_LENGTH => remove(random, state, RECORD_LENGTH),
+        2 => {
+            let end = unit_or_end(random, state, RECORD_LENGTH);
+            state.splice(end..end, [0; RECORD_LENGTH]);
+        }
+        3 if state.len() >= RECORD_LENGTH => swap(random, state, RECORD_LENGTH),
+        _ => *state = in_another_order(random, state, RECORD_LENGTH),
+    }
+}
+
+/// The units in any order.
+pub fn in_another_order(random: &mut Random, bytes: &[u8], unit: usize) -> Vec<u8> {
+    let mut units: Vec<&[u8]> = bytes.chunks(unit).collect();
+    random.shuffle(&mut units);
+    units.concat()
+}
+
+/// The start of a unit, or the end of the last whole one.
+fn unit_or_end(random: &mut Random, bytes: &[u8], unit: usize) -> usize {
+    random.below(bytes.len() / unit + 1) * unit
+}
+
 /// One of the credentials with its state record.
 fn credential_of<'a>(
     random: &mut Random,
     site: &'a [u8],
     state: &'a mut [u8],
 ) -> Option<(CredentialRecord<'a>, &'a mut [u8])> {
-    let parts = records(site).zip(state.chunks_exact_mut(RECORD_LENGTH));
+    let parts = kept_records(site).zip(state.chunks_exact_mut(RECORD_LENGTH));
     let mut credentials: Vec<_> = parts
         .filter(|(record, _)| kind_of(record) == kind::CREDENTIAL)
         .map(|(record, part)| (CredentialRecord(record), part))

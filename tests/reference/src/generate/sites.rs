@@ -48,7 +48,32 @@ pub struct Sizes {
 }
 
 impl Sizes {
+    /// At times rules alone, which have no state, or no rules and factors.
     pub fn small(random: &mut Random) -> Sizes {
+        let usual = Sizes::usual(random);
+        match random.below(32) {
+            0 => Sizes {
+                rules: usual.rules,
+                ..Sizes::NONE
+            },
+            1 => Sizes {
+                rules: 0,
+                factors: 0,
+                ..usual
+            },
+            _ => usual,
+        }
+    }
+
+    const NONE: Sizes = Sizes {
+        zones: 0,
+        points: 0,
+        rules: 0,
+        credentials: 0,
+        factors: 0,
+    };
+
+    fn usual(random: &mut Random) -> Sizes {
         // Seldom none of a kind, since then few entries are worked.
         let mut size = || match random.below(32) {
             0 => 0,
@@ -165,6 +190,28 @@ pub fn site_from(random: &mut Random, base: u32, pool: &Pool, sizes: &Sizes) -> 
     );
     random.shuffle(&mut records);
     records.concat()
+}
+
+/// Every order of three records of different kinds, each of instance 1. Those with a factor but not
+/// its credential are turned back.
+pub fn orders_of_three() -> Vec<Vec<u8>> {
+    let kinds = [
+        Zone::new(1).record(),
+        Point::new(1).record(),
+        Rule::new(1).record(),
+        Credential::new(1).record(),
+        Factor::new(1, [1; VALUE_LENGTH]).record(),
+    ];
+    let mut orders = Vec::new();
+    for first in &kinds {
+        for second in kinds.iter().filter(|second| *second != first) {
+            let others = kinds
+                .iter()
+                .filter(|third| ![first, second].contains(third));
+            orders.extend(others.map(|third| [*first, *second, *third].concat()));
+        }
+    }
+    orders
 }
 
 fn instances(random: &mut Random, pool: &Pool, count: usize) -> Vec<u32> {

@@ -8,20 +8,28 @@ use crate::bytes::{put16, put32};
 use crate::layout::{credential_state, point_state, zone_state};
 use crate::numbers::{kind, MOST_COUNT, NEVER, NONE, RECORD_LENGTH, UNLIMITED};
 use crate::site::{instance_of, kind_of, records, CredentialRecord, PointRecord};
+use crate::state::kept_records;
 
 /// A random state that the site allows.
 pub fn state(random: &mut Random, base: u32, site: &[u8]) -> Vec<u8> {
-    let mut state = Vec::with_capacity(site.len());
-    for record in records(site) {
-        let part = match kind_of(record) {
-            kind::ZONE => zone(random),
-            kind::POINT => point(random, base, site, &PointRecord(record)),
-            kind::CREDENTIAL => credential(random, base, site, &CredentialRecord(record)),
-            _ => [0; RECORD_LENGTH],
-        };
-        state.extend_from_slice(&part);
+    let parts = kept_records(site).map(|record| state_record(random, base, site, record));
+    parts.collect::<Vec<Record>>().concat()
+}
+
+/// A random longer state that the site allows.
+pub fn longer_state(random: &mut Random, base: u32, site: &[u8]) -> Vec<u8> {
+    let parts = records(site).map(|record| state_record(random, base, site, record));
+    parts.collect::<Vec<Record>>().concat()
+}
+
+/// A state record for a site record; that of a rule or a factor is zero.
+fn state_record(random: &mut Random, base: u32, site: &[u8], record: &[u8]) -> Record {
+    match kind_of(record) {
+        kind::ZONE => zone(random),
+        kind::POINT => point(random, base, site, &PointRecord(record)),
+        kind::CREDENTIAL => credential(random, base, site, &CredentialRecord(record)),
+        _ => [0; RECORD_LENGTH],
     }
-    state
 }
 
 fn zone(random: &mut Random) -> Record {
@@ -103,8 +111,17 @@ fn credential(
 
 /// Takes one record of a state just out of what the site allows.
 pub fn spoil(random: &mut Random, site: &[u8], state: &mut [u8]) {
-    let pairs = records(site).zip(state.chunks_exact_mut(RECORD_LENGTH));
-    let mut pairs: Vec<_> = pairs.collect();
+    let pairs = kept_records(site).zip(state.chunks_exact_mut(RECORD_LENGTH));
+    spoil_one(random, pairs.collect());
+}
+
+/// As `spoil`, of a longer state.
+pub fn spoil_longer(random: &mut Random, site: &[u8], longer: &mut [u8]) {
+    let pairs = records(site).zip(longer.chunks_exact_mut(RECORD_LENGTH));
+    spoil_one(random, pairs.collect());
+}
+
+fn spoil_one(random: &mut Random, mut pairs: Vec<(&[u8], &mut [u8])>) {
     if pairs.is_empty() {
         return;
     }

@@ -81,7 +81,7 @@ fn last_use(panel: &Panel) -> u32 {
 /// The card's state record, to be written by hand.
 fn held_mut(panel: &mut Panel) -> &mut [u8] {
     let index = find(&panel.site, kind::CREDENTIAL, 5).expect("the site holds the card");
-    state_at_mut(&mut panel.state, index)
+    state_at_mut(&panel.site, &mut panel.state, index)
 }
 
 fn put_last_grant(panel: &mut Panel, time: u32) {

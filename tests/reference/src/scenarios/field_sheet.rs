@@ -6,6 +6,7 @@ use crate::numbers::{
     authorization_mode, credential_disable, event, factor_disable, kind, passback_mode, point_flag,
     refusal, zone_flag, NONE, RECORD_LENGTH,
 };
+use crate::state::state_length;
 
 const WEST: u32 = 10;
 const EAST: u32 = 20;
@@ -69,7 +70,7 @@ fn badge(time: u32, point: u32, card: [u8; 8]) -> EntryFields {
 /// Every call turns the site back with the number and leaves its buffers as they were.
 fn assert_turned_back(engine: Engine, site: &[u8], number: u8) {
     assert_eq!((engine.check_site)(site), number);
-    let mut state = vec![0xA5; site.len()];
+    let mut state = vec![0xA5; state_length(site)];
     assert_eq!((engine.fresh_state)(site, &mut state), number);
     let journal = badge(100, WEST, WEST_CARD).bytes();
     let mut answers = [0x5A; 16];
@@ -184,7 +185,7 @@ pub fn item_5_editing_the_east_wings_cards_leaves_the_west_wing_as_it_was(engine
     let answers_before = before.run(&entries);
     let answers_after = after.run(&entries);
     assert_eq!(answers_before, answers_after);
-    let length = west.concat().len();
+    let length = state_length(&west.concat());
     let west_before = &before.state[before.state.len() - length..];
     assert_eq!(west_before, &after.state[..length]);
 
@@ -216,7 +217,7 @@ pub fn item_5_east_entries_among_the_west_entries_change_no_west_answer(engine: 
         .step_by(2)
         .collect();
     assert_eq!(west_answers, alone.run(&entries));
-    let length = west_wing(wing_zone(WEST)).concat().len();
+    let length = state_length(&west_wing(wing_zone(WEST)).concat());
     assert_eq!(mixed.state[..length], alone.state[..length]);
     assert_ne!(mixed.state[length..], alone.state[length..]);
 }

@@ -8,6 +8,7 @@ pub mod midnight;
 pub mod misreadings;
 pub mod paper_cases;
 pub mod readers;
+pub mod standby;
 mod week;
 pub mod wrong_codes;
 
@@ -100,6 +101,17 @@ macro_rules! test_scenarios {
             the_same_rule_1900_times_is_the_rule
             rules_of_either_rights_number_are_the_cards
             a_full_campus_lets_each_card_in_on_its_two_days
+        }
+        $crate::test_scenarios! { $engine, standby:
+            the_standby_panel_takes_over_at_any_entry_of_a_day
+            the_standby_panel_goes_on_and_hands_back_to_the_installed_one
+            a_fresh_state_shortened_is_the_fresh_state
+            a_longer_state_is_none_of_the_standby_panels
+            the_ways_are_turned_back_for_the_site_then_the_lengths_then_the_form
+            a_longer_state_with_a_byte_in_a_rule_or_factor_is_not_shortened
+            a_site_of_rules_alone_has_an_empty_state
+            a_site_without_rules_and_factors_has_one_form
+            three_records_in_every_order_keep_theirs
         }
     };
     ($engine:expr, $group:ident: $($scenario:ident)+) => {

@@ -12,7 +12,7 @@ use crate::numbers::{
     SECONDS_PER_DAY,
 };
 use crate::site::find;
-use crate::state::state_at_mut;
+use crate::state::{state_at_mut, state_length};
 
 const GRANTED: u16 = event::GRANTED;
 const UNKNOWN: u16 = event::DENIED_UNKNOWN_CREDENTIAL;
@@ -133,7 +133,7 @@ fn card(panel: &Panel, person: Person) -> [u8; 2] {
 
 fn card_mut(panel: &mut Panel, person: Person) -> &mut [u8] {
     let index = find(&panel.site, kind::CREDENTIAL, person.0).expect("the site holds the card");
-    state_at_mut(&mut panel.state, index)
+    state_at_mut(&panel.site, &mut panel.state, index)
 }
 
 /// Failures and lock of a door, its lock time and its first failure.
@@ -699,7 +699,7 @@ fn forgetful_day(day: u32, zone: u32, people: [Person; 2]) -> Vec<EntryFields> {
 pub fn wrong_codes_in_the_east_wing_leave_the_west_wing_as_it_was(engine: Engine) {
     let west = wing(WEST, &WEST_PEOPLE, 3);
     let records = [west.clone(), wing(EAST, &EAST_PEOPLE, 3)].concat();
-    let length = west.concat().len();
+    let length = state_length(&west.concat());
     let days = [MONDAY, SUNDAY, NEXT_MONDAY];
 
     let mut panel = Panel::fresh_by(engine, &records);

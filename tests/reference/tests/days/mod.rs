@@ -230,8 +230,8 @@ impl Worked {
     }
 }
 
-fn held_at(state: &[u8], credential: usize) -> Held {
-    let part = state_at(state, credential);
+fn held_at(site: &[u8], state: &[u8], credential: usize) -> Held {
+    let part = state_at(site, state, credential);
     Held {
         days: get16(part, credential_state::DAYS_REMAINING),
         last_grant: get32(part, credential_state::LAST_GRANT_TIME),
@@ -256,10 +256,10 @@ fn work(site: &[u8], state: &mut [u8], entry: &[u8]) -> Option<Worked> {
         read: Read {
             event: answer.event,
             now: get32(entry, entry::TIME),
-            last_use: get32(state_at(&before, credential), last_use),
-            held: held_at(&before, credential),
+            last_use: get32(state_at(site, &before, credential), last_use),
+            held: held_at(site, &before, credential),
         },
-        left: held_at(state, credential),
+        left: held_at(site, state, credential),
     })
 }
 

@@ -541,7 +541,7 @@ impl Places {
             };
         }
         let point = find(site, kind::POINT, instance);
-        let shown = shown_card(site, entry).filter(|_| waited_for(state, point) != NONE);
+        let shown = shown_card(site, entry).filter(|_| waited_for(site, state, point) != NONE);
         Places {
             point,
             cards: [named, shown.filter(|_| shown != named)],
@@ -550,9 +550,9 @@ impl Places {
 }
 
 /// The credential that a point waits for.
-fn waited_for(state: &[u8], point: Option<usize>) -> u32 {
+fn waited_for(site: &[u8], state: &[u8], point: Option<usize>) -> u32 {
     let waiting = point_state::WAITING_CREDENTIAL;
-    point.map_or(NONE, |index| get32(state_at(state, index), waiting))
+    point.map_or(NONE, |index| get32(state_at(site, state, index), waiting))
 }
 
 /// The position of the credential whose identifying factor the entry reads.
@@ -569,9 +569,9 @@ fn shown_card(site: &[u8], entry: &[u8]) -> Option<usize> {
     find(site, kind::CREDENTIAL, factor.credential())
 }
 
-fn card_at(state: &[u8], place: Option<usize>) -> Card {
+fn card_at(site: &[u8], state: &[u8], place: Option<usize>) -> Card {
     place.map_or(Card::default(), |index| {
-        let part = state_at(state, index);
+        let part = state_at(site, state, index);
         Card {
             tries: part[credential_state::WRONG_TRIES],
             disable: part[credential_state::CREDENTIAL_DISABLE],
@@ -579,9 +579,9 @@ fn card_at(state: &[u8], place: Option<usize>) -> Card {
     })
 }
 
-fn door_at(state: &[u8], place: Option<usize>) -> Door {
+fn door_at(site: &[u8], state: &[u8], place: Option<usize>) -> Door {
     place.map_or(Door::default(), |index| {
-        let part = state_at(state, index);
+        let part = state_at(site, state, index);
         Door {
             failures: part[point_state::FAILED_ATTEMPTS],
             first_failure: get32(part, point_state::FIRST_FAILURE),
@@ -591,10 +591,10 @@ fn door_at(state: &[u8], place: Option<usize>) -> Door {
     })
 }
 
-fn held_at(state: &[u8], places: &Places) -> Held {
+fn held_at(site: &[u8], state: &[u8], places: &Places) -> Held {
     Held {
-        cards: places.cards.map(|place| card_at(state, place)),
-        door: door_at(state, places.point),
+        cards: places.cards.map(|place| card_at(site, state, place)),
+        door: door_at(site, state, places.point),
         marked: false,
     }
 }
@@ -611,13 +611,13 @@ fn found(site: &[u8], state: &[u8], places: &Places, entry: &[u8], answer: &Answ
         set_disable: (!is_read).then_some(entry[entry::ARGUMENT]),
         now: get32(entry, entry::TIME),
         point: point.map_or(NONE, |point| instance_of(point.0)),
-        is_waiting: waited_for(state, places.point) != NONE,
+        is_waiting: waited_for(site, state, places.point) != NONE,
         has_other: places.cards[1].is_some(),
         is_relinquished: answer.marks & mark::LOCKOUT_RELINQUISHED != 0,
         most_tries: places.cards.map(|place| place.map_or(0, most)),
         most_failures: point.map_or(0, |point| point.max_failed_attempts()),
         window: point.map_or(0, |point| point.failed_attempts_time()),
-        held: held_at(state, places),
+        held: held_at(site, state, places),
         history: History::default(),
     }
 }
@@ -655,7 +655,7 @@ fn work(site: &[u8], state: &mut [u8], entry: &[u8], histories: &mut [History]) 
         found: found(site, &before, &places, entry, &answer),
         left: Held {
             marked: answer.marks & mark::LOCKOUT_MAX_ATTEMPTS != 0,
-            ..held_at(state, &places)
+            ..held_at(site, state, &places)
         },
     };
     if let Some(card) = places.cards[0] {

@@ -6,11 +6,12 @@ use differential::proved::PROVED;
 use plain::{HASHED, LINEAR};
 use reference::engine::Engine;
 use reference::entry::entries;
+use reference::longer::lengthened;
 use reference::numbers::{
     event, refusal, ANSWER_LENGTH, ENTRY_LENGTH, MOST_JOURNAL_BYTES, RECORD_LENGTH,
 };
 use reference::scenarios::paper_cases::{printed_journal, printed_site};
-use reference::state::fresh_state;
+use reference::state::{fresh_state, state_length};
 use std::hint::black_box;
 
 pub const ENGINES: [(&str, Engine); 3] =
@@ -20,11 +21,12 @@ pub const ENGINES: [(&str, Engine); 3] =
 pub const ONE_ENTRY: &str = "one entry";
 pub const LONGEST: &str = "longest journal";
 
-/// A site, the state that runs begin with, and the calls on them.
+/// A site, the state that runs begin with in both forms, and the calls on them.
 pub struct Setting {
     pub shape: &'static str,
     pub site: Vec<u8>,
     pub state: Vec<u8>,
+    pub longer: Vec<u8>,
     pub calls: Vec<Call>,
 }
 
@@ -36,6 +38,8 @@ pub struct Call {
 enum Action {
     CheckSite,
     FreshState,
+    ShortenState,
+    LengthenState,
     /// A run of the journal, with the fewest grants that are meant.
     Run {
         journal: Vec<u8>,
@@ -47,8 +51,13 @@ enum Action {
 #[derive(Clone, PartialEq)]
 pub struct Buffers {
     pub state: Vec<u8>,
+    /// Only of a call that writes it, so that it takes no room in caches from others.
+    longer: Vec<u8>,
     answers: Vec<u8>,
 }
+
+/// What stands in a buffer that a call writes whole.
+const UNWRITTEN: u8 = 0xA5;
 
 impl Setting {
     pub fn new(shape: &Shape, records: usize) -> Setting {
@@ -62,11 +71,14 @@ impl Setting {
         let calls = vec![
             Call::new("check_site", Action::CheckSite),
             Call::new("fresh_state", Action::FreshState),
+            Call::new("shorten_state", Action::ShortenState),
+            Call::new("lengthen_state", Action::LengthenState),
             Call::run(ONE_ENTRY, one, 1),
             Call::run(LONGEST, longest, most / 2),
         ];
         Setting {
             shape: shape.name,
+            longer: lengthened(&site, &state),
             site,
             state,
             calls,
@@ -76,7 +88,7 @@ impl Setting {
     /// The example of the paper.
     pub fn example() -> Setting {
         let site = printed_site();
-        let mut state = vec![0; site.len()];
+        let mut state = vec![0; state_length(&site)];
         assert_eq!(fresh_state(&site, &mut state), refusal::ACCEPTED);
         let calls = vec![
             Call::new("check_site", Action::CheckSite),
@@ -84,6 +96,7 @@ impl Setting {
         ];
         Setting {
             shape: "example",
+            longer: lengthened(&site, &state),
             site,
             state,
             calls,
@@ -123,10 +136,26 @@ impl Call {
 
     /// Buffers as each call finds them.
     pub fn buffers(&self, setting: &Setting) -> Buffers {
-        Buffers {
-            state: setting.state.clone(),
+        let longer = match self.action {
+            Action::LengthenState => setting.longer.len(),
+            _ => 0,
+        };
+        let mut buffers = Buffers {
+            state: vec![0; setting.state.len()],
+            longer: vec![0; longer],
             answers: vec![0; entries(self.journal()).count() * ANSWER_LENGTH],
+        };
+        self.reset(setting, &mut buffers);
+        buffers
+    }
+
+    pub fn reset(&self, setting: &Setting, buffers: &mut Buffers) {
+        match self.action {
+            Action::FreshState | Action::ShortenState => buffers.state.fill(UNWRITTEN),
+            _ => buffers.state.copy_from_slice(&setting.state),
         }
+        buffers.longer.fill(UNWRITTEN);
+        buffers.answers.fill(0);
     }
 
     pub fn make(&self, engine: &Engine, setting: &Setting, buffers: &mut Buffers) -> u8 {
@@ -134,6 +163,12 @@ impl Call {
         match &self.action {
             Action::CheckSite => (engine.check_site)(site),
             Action::FreshState => (engine.fresh_state)(site, &mut buffers.state),
+            Action::ShortenState => {
+                (engine.shorten_state)(site, &setting.longer, &mut buffers.state)
+            }
+            Action::LengthenState => {
+                (engine.lengthen_state)(site, &buffers.state, &mut buffers.longer)
+            }
             Action::Run { journal, .. } => {
                 (engine.run_journal)(site, &mut buffers.state, journal, &mut buffers.answers)
             }
@@ -173,11 +208,6 @@ impl Call {
 }
 
 impl Buffers {
-    pub fn reset(&mut self, setting: &Setting) {
-        self.state.copy_from_slice(&setting.state);
-        self.answers.fill(0);
-    }
-
     fn grants(&self) -> usize {
         let granted = event::GRANTED.to_be_bytes();
         let answers = self.answers.chunks_exact(ANSWER_LENGTH);

@@ -5,10 +5,9 @@ use reference::build::{EntryFields, FORMAT};
 use reference::bytes::get32;
 use reference::generate::Random;
 use reference::layout::point_state;
-use reference::numbers::{
-    factor_role, factors_wanted, kind, ENTRY_LENGTH, NONE, RECORD_LENGTH, VALUE_LENGTH,
-};
+use reference::numbers::{factor_role, factors_wanted, kind, ENTRY_LENGTH, NONE, VALUE_LENGTH};
 use reference::site::{instance_of, kind_of, records, FactorRecord, PointRecord};
+use reference::state::kept_records;
 use std::collections::HashMap;
 
 /// Seconds from one entry to the next.
@@ -46,25 +45,28 @@ impl<'a> Writer<'a> {
             locked: None,
             random: Random::new(1),
         };
-        for (record, part) in records(site).zip(state.chunks_exact(RECORD_LENGTH)) {
-            let instance = instance_of(record);
-            match kind_of(record) {
-                kind::ZONE => writer.zones.push(instance),
-                kind::POINT => writer.points.push(Point {
-                    instance,
-                    wants_two: PointRecord(record).factors_wanted() == factors_wanted::TWO,
-                    waits_for: get32(part, point_state::WAITING_CREDENTIAL),
-                }),
-                kind::CREDENTIAL => writer.credentials.push(instance),
-                kind::FACTOR => {
-                    let factor = FactorRecord(record);
-                    let key = (instance, factor.role());
-                    writer.factors.entry(key).or_default().push(factor);
-                }
-                _ => {}
-            }
+        for (record, part) in kept_records(site).zip(records(state)) {
+            writer.add_kept(record, part);
+        }
+        let factors = records(site).filter(|record| kind_of(record) == kind::FACTOR);
+        for factor in factors.map(FactorRecord) {
+            let key = (factor.credential(), factor.role());
+            writer.factors.entry(key).or_default().push(factor);
         }
         writer
+    }
+
+    fn add_kept(&mut self, record: &[u8], part: &[u8]) {
+        let instance = instance_of(record);
+        match kind_of(record) {
+            kind::ZONE => self.zones.push(instance),
+            kind::POINT => self.points.push(Point {
+                instance,
+                wants_two: PointRecord(record).factors_wanted() == factors_wanted::TWO,
+                waits_for: get32(part, point_state::WAITING_CREDENTIAL),
+            }),
+            _ => self.credentials.push(instance),
+        }
     }
 
     /// A read in the middle of the site that is granted.

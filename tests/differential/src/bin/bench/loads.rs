@@ -42,7 +42,7 @@ const OPTIONS: [&str; 4] = [
     "--log-fd=1",
 ];
 
-/// The marks around a call, the first with the addresses and the length of site and state.
+/// The marks around a call, the first with the addresses of site and state, each with its length.
 const BEGIN: &str = "begin ";
 const END: &str = "end";
 
@@ -58,17 +58,21 @@ struct Lent {
 
 impl Lent {
     fn mark(site: &[u8], state: &[u8]) -> String {
-        let [site_start, state_start] = [site, state].map(|bytes| bytes.as_ptr() as usize);
-        format!("{BEGIN}{site_start:x} {state_start:x} {:x}", site.len())
+        let [site, state] = [site, state].map(|bytes| {
+            let start = bytes.as_ptr() as usize;
+            format!("{start:x} {:x}", bytes.len())
+        });
+        format!("{BEGIN}{site} {state}")
     }
 
     fn in_mark(line: &str) -> Option<Lent> {
         let numbers = line.strip_prefix(BEGIN)?.split(' ');
         let numbers = numbers.map(|number| usize::from_str_radix(number, 16).ok());
-        let [site, state, length] = numbers.collect::<Option<Vec<_>>>()?.try_into().ok()?;
+        let numbers = numbers.collect::<Option<Vec<_>>>()?;
+        let [site, site_length, state, state_length] = numbers.try_into().ok()?;
         Some(Lent {
-            site: site..site + length,
-            state: state..state + length,
+            site: site..site + site_length,
+            state: state..state + state_length,
         })
     }
 
@@ -162,7 +166,8 @@ fn differences(calls: Vec<Moved>) -> io::Result<[Moved; ENGINES.len()]> {
 pub fn of_one_read(setting: &Setting, read: &Call) -> io::Result<[Moved; ENGINES.len()]> {
     assert_asks_rules(setting, read);
     read.assert_agreed(setting);
-    let input = [&setting.site[..], &setting.state, read.journal()].concat();
+    let length = setting.site.len().to_be_bytes();
+    let input = [&length[..], &setting.site, &setting.state, read.journal()].concat();
     let mut child = this_program_under(&OPTIONS)?
         .stdin(Stdio::piped())
         .stdout(Stdio::piped())
@@ -196,17 +201,21 @@ fn assert_asks_rules(setting: &Setting, read: &Call) {
     assert_eq!(mode, authorization_mode::AUTHORIZE);
 }
 
-/// Under valgrind: makes the calls of each engine between marks, the empty journal first. The site,
-/// the state and the read are the input; to make them here would be traced too, for minutes.
+/// Under valgrind: makes the calls of each engine between marks, the empty journal first. The length of
+/// the site, the site, the state and the read are the input; to make them here would be traced too, for
+/// minutes.
 pub fn make_marked_calls() -> io::Result<()> {
     let mut input = Vec::new();
     io::stdin().read_to_end(&mut input)?;
-    let (rest, entry) = input.split_at(input.len() - ENTRY_LENGTH);
-    let (site, state) = rest.split_at(rest.len() / 2);
+    let (length, rest) = input.split_first_chunk().expect("the length of the site");
+    let (site, rest) = rest.split_at(usize::from_be_bytes(*length));
+    let (state, entry) = rest.split_at(rest.len() - ENTRY_LENGTH);
     let setting = Setting {
         shape: "",
         site: site.to_vec(),
         state: state.to_vec(),
+        // No call here takes one.
+        longer: Vec::new(),
         calls: vec![
             Call::run("no entry", Vec::new(), 0),
             Call::run(ONE_ENTRY, entry.to_vec(), 1),
@@ -249,7 +258,7 @@ mod tests {
 
     #[test]
     fn a_mark_has_the_addresses() {
-        let (site, state) = ([1; 64], [2; 64]);
+        let (site, state) = ([1; 64], [2; 32]);
         let addresses = |bytes: &[u8]| {
             let start = bytes.as_ptr() as usize;
             start..start + bytes.len()
@@ -259,15 +268,16 @@ mod tests {
             state: addresses(&state),
         };
         assert_eq!(Lent::in_mark(&Lent::mark(&site, &state)), Some(lent));
-        assert_eq!(Lent::in_mark("begin 1000 2000"), None);
+        assert_eq!(Lent::in_mark("begin 1000 2000 40"), None);
     }
 
     /// Of accesses before, at and behind the ends of the buffers.
     #[test]
     fn accesses_are_counted_between_the_marks() {
-        let trace = " L 1000,8\nbegin 1000 2000 40\nI  1000,3\n L fff,1\n L 1000,8\n L 103f,1\n \
+        let trace =
+            " L 1000,8\nbegin 1000 40 2000 40\nI  1000,3\n L fff,1\n L 1000,8\n L 103f,1\n \
                      L 1040,4\n S 1000,8\n M 2000,4\n S 203f,1\n L 2010,16\nend\n L 1000,8\n\
-                     begin 1000 2000 40\n L 1000,8\n";
+                     begin 1000 40 2000 40\n L 1000,8\n";
         let calls = moved_in(trace.as_bytes()).expect("a trace");
         assert_eq!(calls, [[2, 9, 2, 20, 2, 5]]);
     }

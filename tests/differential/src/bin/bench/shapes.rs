@@ -10,7 +10,7 @@ use reference::numbers::{
     rule_flag, zone_flag, EVERY_DAY, RECORD_LENGTH, VALUE_LENGTH,
 };
 use reference::site::{instance_of, kind_of, records};
-use reference::state::fresh_state;
+use reference::state::{fresh_state, kept_records, state_length};
 
 /// The time of the first entry, 08:00 on a Monday.
 pub const START: u32 = 8 * 60 * 60;
@@ -93,7 +93,7 @@ impl Shape {
 
     /// The state that runs begin with.
     pub fn state(&self, site: &[u8]) -> Vec<u8> {
-        let mut state = vec![0; site.len()];
+        let mut state = vec![0; state_length(site)];
         assert_eq!(fresh_state(site, &mut state), refusal::ACCEPTED);
         if self.twist == Twist::References {
             fill_with_references(site, &mut state);
@@ -216,7 +216,7 @@ fn fill_with_references(site: &[u8], state: &mut [u8]) {
     let (zones, points) = (of_kind(kind::ZONE), of_kind(kind::POINT));
     let credentials = of_kind(kind::CREDENTIAL);
     let mut random = Random::new(1);
-    for (record, part) in records(site).zip(state.chunks_exact_mut(RECORD_LENGTH)) {
+    for (record, part) in kept_records(site).zip(state.chunks_exact_mut(RECORD_LENGTH)) {
         match kind_of(record) {
             kind::POINT => {
                 let waiting = random.pick(&credentials);

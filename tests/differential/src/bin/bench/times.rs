@@ -75,7 +75,7 @@ impl Meter for Times {
 /// The time of one call, of as many as there are buffers. They are reset before.
 fn time(engine: &Engine, setting: &Setting, call: &Call, buffers: &mut [Buffers]) -> f64 {
     for buffers in &mut *buffers {
-        buffers.reset(setting);
+        call.reset(setting, buffers);
     }
     let start = Instant::now();
     for buffers in &mut *buffers {
