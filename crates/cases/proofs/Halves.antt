@@ -6,13 +6,13 @@ use mathlib.Core.List.{List, [], ◌∷◌, ◌++◌, map}
 use mathlib.Core.Bool.{Bool, true, false, ◌||◌}
 use Rattle.octets.specs.Octets.{digits, put}
 use Rattle.model.specs.Words.{all, zeros}
-use Rattle.model.specs.Site.{records, kind}
+use Rattle.model.specs.Site.{records}
 use Rattle.model.specs.Accept.{in_range}
-use Rattle.model.specs.State.{Pair, panel, fresh}
+use Rattle.model.specs.State.{fresh}
 use Rattle.model.specs.Checks.{time_fits}
-use Rattle.model.specs.Calls.{number, check_site, check_state}
-use Rattle.model.specs.Lists.{Worked, History, returns, ended, worked, worked_in, event_in}
-use Rattle.model.specs.Shifts.{is_shift, following_days, until_midnight, since_midnight, stands_halved, stands_whole, Halved, others}
+use Rattle.model.specs.Calls.{number, check_site}
+use Rattle.model.specs.Lists.{Worked, History, returns, ended, worked, event_in}
+use Rattle.model.specs.Shifts.{is_shift, following_days, until_midnight, since_midnight, stands_halved, stands_whole, Halved}
 use Rattle.model.specs.Demands.{returns_other}
 use Rattle.model.specs.declared.Refusal.TheVariants.{SiteLength, SiteField, SiteTwice, SiteMissing, StateLength, StateForm, JournalLength, AnswersLength}
 use Rattle.model.proofs.Build.{history, cut, examples}
@@ -22,7 +22,7 @@ use Rattle.cases.proofs.Bytes.{door, rule, person, card, pin, shows, site, bytes
 
 -- One name that opens the definitions of Shifts.
 unfoldable shifts : Unit {0}
-unfolding bytes examples is_shift following_days until_midnight since_midnight stands_halved stands_whole others
+unfolding bytes examples is_shift following_days until_midnight since_midnight stands_halved stands_whole
 shifts = tt
 
 -- Friday's shift, 22:00 to 6:00, of rights 9 at point 2; its halves, on Friday and on Saturday.
@@ -94,7 +94,7 @@ pub rewritten : Halved (records one_rule.site) (records two_rules.site)
 unfolding shifts night friday saturday one_rule two_rules
 rewritten = record { others = refl; halved = refl; whole = refl }
 
--- The events of a list; whether the records of two sites stand in each other, and their numbers; the kinds of all records of a list but rules.
+-- The events of a list; whether the records of two sites stand in each other, and their numbers.
 abbrev events : History → List ℕ
 events h = map (λ (w : Worked). event_in w.answer) (worked h)
 
@@ -104,11 +104,8 @@ stood site other = all (stands_halved (records other)) (records site) ∷ all (s
 abbrev numbers : List ℕ → List ℕ → List ℕ
 numbers site other = number (check_site site) ∷ number (check_site other) ∷ []
 
-abbrev kinds : History → List ℕ
-kinds h = map (λ (x : Pair). kind x.0) (others (panel h.site (ended h)))
-
 -- Without a premise: the first half alone; the second half on Friday; a third rule, which fits always; the records of the office in another
--- sequence; below, a state in which the credential is disabled.
+-- sequence; below, a site that is not accepted.
 unfoldable first_alone : History
 unfolding shifts friday
 first_alone = history (office ++ (friday ∷ [])) readings refl
@@ -125,9 +122,9 @@ unfoldable turned_round : History
 unfolding shifts friday saturday
 turned_round = history (saturday ∷ office_backwards ++ (friday ∷ [])) readings refl
 
--- What the runs of a list return, from a state.
-abbrev returned : History → List ℕ → List ℕ
-returned h state = map number (returns h.site state h.runs)
+-- What the runs of the list return, on a site and a state.
+abbrev returned : List ℕ → List ℕ → List ℕ
+returned on state = map number (returns on state one_rule.runs)
 
 -- The fresh state, and that with a record more behind it.
 abbrev blank : History → List ℕ
@@ -142,21 +139,17 @@ unbounded = with_fields (from_minute_field 1441 ∷ []) night
 
 pub record Differing : Type 0 where
   rewritten_events : events one_rule ++ events two_rules ≡ 136 ∷ 1 ∷ 1 ∷ 1 ∷ 136 ∷ 136 ∷ 1 ∷ 1 ∷ 1 ∷ 136 ∷ []
+  rewritten_states : (blank one_rule ≡ blank two_rules) × (ended one_rule ≡ ended two_rules)
   half_missing : (stood one_rule.site first_alone.site ≡ false ∷ true ∷ []) × (events first_alone ≡ 136 ∷ 1 ∷ 136 ∷ 136 ∷ 136 ∷ [])
   half_misplaced : (stood one_rule.site wrong_day.site ≡ false ∷ false ∷ []) × (events wrong_day ≡ 136 ∷ 1 ∷ 136 ∷ 136 ∷ 136 ∷ [])
   rule_added : (stood one_rule.site third_rule.site ≡ true ∷ false ∷ []) × (events third_rule ≡ 1 ∷ 1 ∷ 1 ∷ 1 ∷ 1 ∷ [])
-  others_moved : (stood one_rule.site turned_round.site ≡ true ∷ true ∷ []) × (kinds one_rule ++ kinds turned_round ≡ 2 ∷ 4 ∷ 5 ∷ 5 ∷ 5 ∷ 5 ∷ 4 ∷ 2 ∷ [])
-  states_differing :
-      map (λ (w : Worked). event_in w.answer) (worked_in one_rule.site (put 50 1 1 (blank one_rule)) one_rule.runs)
-      ≡ 158 ∷ 158 ∷ 158 ∷ 158 ∷ 158 ∷ []
-  -- A state that no run takes, of the one site and of the other; its records are those of the fresh one.
-  state_not_taken : returned one_rule (marked one_rule) ++ returned two_rules (blank two_rules) ≡ 5 ∷ 5 ∷ 5 ∷ 0 ∷ 10 ∷ 0 ∷ []
-  other_not_taken : returned one_rule (blank one_rule) ++ returned two_rules (marked two_rules) ≡ 0 ∷ 10 ∷ 0 ∷ 5 ∷ 5 ∷ 5 ∷ []
-  same_beside :
-      (others (panel one_rule.site (marked one_rule)) ≡ others (panel two_rules.site (blank two_rules)))
-      × (others (panel one_rule.site (blank one_rule)) ≡ others (panel two_rules.site (marked two_rules)))
-  -- Of `FreshShifts`: of the same records, with a byte behind them, the fresh state is not taken either.
-  fresh_not_taken : map (λ s. number (check_state s (fresh s))) (one_rule.site ∷ (one_rule.site ++ (0 ∷ [])) ∷ []) ≡ 0 ∷ 1 ∷ []
+  others_moved :
+      (stood one_rule.site turned_round.site ≡ true ∷ true ∷ [])
+      × (returned one_rule.site (blank one_rule) ++ returned turned_round.site (blank one_rule) ≡ 0 ∷ 10 ∷ 0 ∷ 6 ∷ 6 ∷ 6 ∷ [])
+  -- Of the same records, with a byte behind them.
+  not_accepted : returned one_rule.site (blank one_rule) ++ returned (one_rule.site ++ (0 ∷ [])) (blank one_rule) ≡ 0 ∷ 10 ∷ 0 ∷ 1 ∷ 1 ∷ 1 ∷ []
+  -- A state that no run takes needs no premise: it is turned back alike.
+  not_taken : returned one_rule.site (marked one_rule) ++ returned two_rules.site (marked one_rule) ≡ 5 ∷ 5 ∷ 5 ∷ 5 ∷ 5 ∷ 5 ∷ []
   -- Of `AcceptedShifts`: a rule out of range in the other site alone, or in the one alone; a factor twice.
   other_out_of_range :
       (stood one_rule.site (one_rule.site ++ unbounded) ≡ true ∷ false ∷ []) × (numbers one_rule.site (one_rule.site ++ unbounded) ≡ 0 ∷ 2 ∷ [])
@@ -174,15 +167,13 @@ unfolding shifts night friday saturday one_rule two_rules first_alone wrong_day 
 differing =
     record {
       rewritten_events = refl;
+      rewritten_states = (refl, refl);
       half_missing = (refl, refl);
       half_misplaced = (refl, refl);
       rule_added = (refl, refl);
       others_moved = (refl, refl);
-      states_differing = refl;
-      state_not_taken = refl;
-      other_not_taken = refl;
-      same_beside = (refl, refl);
-      fresh_not_taken = refl;
+      not_accepted = refl;
+      not_taken = refl;
       other_out_of_range = (refl, refl);
       one_out_of_range = (refl, refl);
       others_repeated = (refl, refl);
