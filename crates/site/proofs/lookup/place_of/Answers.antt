@@ -1,5 +1,5 @@
 -- The record at i is the one that is sought, or the next decides and its state record is passed over.
-use Prim.Native.Nat.{◌+◌}
+use Prim.Native.Nat.{ℕ, ◌+◌}
 use mathlib.Core.Path.{◌≡◌, refl, sym, ap, ◌∙◌}
 use native.Mathlib.Omega.{arith}
 use lib.ListN.{length}
@@ -7,10 +7,15 @@ use Rattle.std.specs.Prelude.{Some, None}
 use Rattle.model.specs.Words.{bit_of}
 use Rattle.model.specs.Site.{records, is_at}
 use Rattle.model.specs.State.{state_place}
+use Rattle.index.specs.declared.Place.{Place}
 use Rattle.index.proofs.Counts.{place_one, place_few}
 use Rattle.index.proofs.Places.{place_here, place_end, place_after}
 use Rattle.site.specs.Place.{site_place, place_of}
 use Rattle.site.proofs.lookup.place_of.Goals as goal
+
+-- The place of two numbers.
+abbrev placed : ℕ → ℕ → Place
+placed i state = record { site = i; state = state }
 
 pub loop-i-init : goal.loop-i-init
 unfolding state_place site_place
@@ -24,7 +29,7 @@ returns-then-is_at g c =
     let v = c.records-part-items.ensures in
     let e : site_place k n c.args.site.now ≡ Some c.loop-i.i =
     sym c.loop-i.invariant.1 ∙ place_here (is_at k n) (records c.args.site.now) c.loop-i.i (omega (arith, ap length v)) (sym (rw v at c.is_at.ensures) ∙ c.if-is_at.true) in
-    rw (e, c.loop-i.invariant.0)
+    rw e (ap (λ s. Some (placed c.loop-i.i s)) c.loop-i.invariant.0)
 
 pub overflow_add-state : goal.overflow_add-state
 overflow_add-state g c =
