@@ -1,5 +1,5 @@
 // The calls, on slices. Every call checks the site anew, and nothing is written before all checks have passed.
-#![tactic(auto, unfolding(model::specs::Calls::is_worked, model::specs::Calls::fresh_returned, model::specs::Calls::fresh_state, model::specs::Calls::check_state, model::specs::Calls::run_returned, model::specs::Calls::run_journal, model::specs::Longer::shorten_returned, model::specs::Longer::shorten_state, model::specs::Longer::lengthen_returned, model::specs::Longer::lengthen_state), using(crate::proofs::Laws::fresh_whole, crate::proofs::Laws::run_whole))]
+#![tactic(auto, unfolding(model::specs::Calls::is_worked, model::specs::Calls::fresh_returned, model::specs::Calls::fresh_state, model::specs::Calls::check_state, model::specs::Calls::run_returned, model::specs::Calls::run_journal, model::specs::Longer::shorten_returned, model::specs::Longer::shorten_state, model::specs::Longer::lengthen_returned, model::specs::Longer::lengthen_state), using(crate::proofs::Laws::fresh_whole))]
 
 ghost use Rattle.std.specs.Prelude.{◌≡◌, Bool, true, MatchResult, Ok, Err};
 ghost use Rattle.model.specs.Calls.{number, check_site, fresh_returned, state_result, fresh_state, check_state, run_returned, run_result, run_journal};

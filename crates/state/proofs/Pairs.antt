@@ -1,18 +1,70 @@
 -- The pairs of a panel: the records of the site and those of the state side by side.
-use Rattle.std.specs.List.{zip}
+use Rattle.std.specs.List.{zip, filter}
+use Rattle.std.specs.Prelude.{if◌then◌else◌, cond, Option, Some, None}
 use Prim.Native.Nat.{ℕ, zero, suc, ◌/◌}
+use native.Mathlib.Omega.{arith}
 use mathlib.Core.Path.{◌≡◌, refl, ap}
-use mathlib.Core.List.{List, ◌∷◌}
+use mathlib.Core.List.{List, [], ◌∷◌}
+use mathlib.Core.Bool.{Bool, true, false, ◌&&◌}
 use lib.ListN.{length, take, drop}
 use Rattle.octets.specs.Octets.{groups}
-use Rattle.model.specs.Site.{records}
-use Rattle.model.specs.State.{paired, panel}
+use Rattle.model.specs.Words.{keep, all}
+use Rattle.model.specs.Site.{record_kind, records}
+use Rattle.model.specs.State.{Pair, kept_kind, kept, state_size, paired, panel, state_length, record_well_as, record_well}
+use Rattle.model.specs.Longer.{long_panel}
+use Rattle.index.proofs.Building.{length_records}
+use Rattle.model.specs.declared.RecordKind.{RecordKind}
+use Rattle.model.specs.declared.RecordKind.TheVariants.{OfZone, OfPoint, OfRule, OfCredential, OfFactor}
 
-zip_groups : (k : ℕ) (site state : List ℕ) → zip (groups 32 k site) (groups 32 k state) ≡ paired k site state
+-- What the library's `filter` keeps.
+pub filter_is : {A : Type 0} (q : A → Bool) (xs : List A) → filter q xs ≡ keep q xs
+filter_is q [] = refl
+filter_is q (x ∷ xs) = go (q x) (filter_is q xs)
+  where
+    go : (c : Bool) → filter q xs ≡ keep q xs → cond c (x ∷ filter q xs) (filter q xs) ≡ if c then x ∷ keep q xs else keep q xs
+    go true h = ap (λ ys. x ∷ ys) h
+    go false h = h
+
+-- The records that have state, beside those of the state: where the others pass a test, it tells the same of the whole panel.
+module _ (q : Pair → Bool) (passes : (s t : List ℕ) → kept s ≡ false → q (s, t) ≡ true) where
+  all_kept : (ss : List (List ℕ)) (n : ℕ) (state : List ℕ) → length (keep kept ss) ≡ n → all q (zip (keep kept ss) (groups 32 n state)) ≡ all q (paired state_size ss state)
+  unfolding groups paired state_size
+  all_kept [] n state h = refl
+  all_kept (s ∷ ss) n state h = go (kept s) refl n h (λ n state. all_kept ss n state)
+    where
+      go : (c : Bool) → kept s ≡ c → (n : ℕ) → length (if c then s ∷ keep kept ss else keep kept ss) ≡ n →
+          ((n : ℕ) (state : List ℕ) → length (keep kept ss) ≡ n → all q (zip (keep kept ss) (groups 32 n state)) ≡ all q (paired state_size ss state)) →
+          all q (zip (if c then s ∷ keep kept ss else keep kept ss) (groups 32 n state))
+          ≡ (q (s, take (if c then 32 else 0) state) && all q (paired state_size ss (drop (if c then 32 else 0) state)))
+      go true e zero h rest = absurd (omega (arith, h))
+      go true e (suc n) h rest = ap (λ b. q (s, take 32 state) && b) (rest n (drop 32 state) (omega (arith, h)))
+      go false e n h rest = rw (passes s (take 0 state) e) (rest n state h)
+
+  pub all_panel : (site state : List ℕ) → length state ≡ state_length site →
+      all q (zip (keep kept (records site)) (groups 32 (length state / 32) state)) ≡ all q (panel site state)
+  unfolding panel state_length
+  all_panel site state h = all_kept (records site) (length state / 32) state (omega (arith, h))
+
+-- The longer state has a record beside each.
+zip_groups : (ss : List (List ℕ)) (n : ℕ) (state : List ℕ) → length ss ≡ n → zip ss (groups 32 n state) ≡ paired (λ s. 32) ss state
 unfolding groups paired
-zip_groups zero site state = refl
-zip_groups (suc k) site state = ap (λ ps. (take 32 site, take 32 state) ∷ ps) (zip_groups k (drop 32 site) (drop 32 state))
+zip_groups [] n state h = refl
+zip_groups (s ∷ ss) zero state h = absurd (omega (arith, h))
+zip_groups (s ∷ ss) (suc n) state h = ap (λ ps. (s, take 32 state) ∷ ps) (zip_groups ss n (drop 32 state) (omega (arith, h)))
 
-pub zip_panel : (site state : List ℕ) → length state ≡ length site → zip (records site) (groups 32 (length state / 32) state) ≡ panel site state
-unfolding records panel
-zip_panel site state h = rw h (zip_groups (length site / 32) site state)
+pub zip_panel : (site long : List ℕ) → length long ≡ length site → zip (records site) (groups 32 (length long / 32) long) ≡ long_panel site long
+unfolding long_panel
+zip_panel site long h = rw h (zip_groups (records site) (length site / 32) long (length_records site))
+
+-- What has no state is well formed.
+pub others_well : (ss : List (List ℕ)) (s t : List ℕ) → kept s ≡ false → record_well ss (s, t) ≡ true
+unfolding record_well kept
+others_well ss s t = go (record_kind s)
+  where
+    go : (k : Option RecordKind) → kept_kind k ≡ false → record_well_as k ss (s, t) ≡ true
+    go (Some OfZone) h = cc
+    go (Some OfPoint) h = cc
+    go (Some OfRule) h = refl
+    go (Some OfCredential) h = cc
+    go (Some OfFactor) h = refl
+    go None h = refl

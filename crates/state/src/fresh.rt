@@ -1,8 +1,8 @@
 // The fresh state of a site: a state record for each zone, point and credential, in site sequence.
-#![tactic(auto, unfolding(model::specs::State::fresh_record, model::specs::State::fresh_credential))]
+#![tactic(auto, unfolding(model::specs::State::kept, model::specs::State::fresh_record, model::specs::State::fresh_credential))]
 
-ghost use Rattle.std.specs.Prelude.{◌≡◌, [], length, unwrap_or};
-ghost use Rattle.model.specs.State.{fresh_record, fresh, state_length};
+ghost use Rattle.std.specs.Prelude.{◌≡◌, length, if◌then◌else◌, Some, None};
+ghost use Rattle.model.specs.State.{kept, fresh_record, fresh, state_length};
 
 use model::RecordKind;
 use model::numbers::RECORD_SIZE;
@@ -12,7 +12,7 @@ use records::{Record, ToRecord};
 
 // The state record of a site record, where it has one.
 fn fresh_record(s: &Record) -> Option<Record>
-    ensures { unwrap_or result [] ≡ fresh_record s.now }
+    ensures { result ≡ (if kept s.now then Some (fresh_record s.now) else None) }
 {
     match record_kind_of(s)? {
         RecordKind::OfZone => Some([0; RECORD_SIZE]),
@@ -29,8 +29,11 @@ pub fn write_fresh_state(site: &[u8], state: &mut [u8])
     requires { length state.old ≡ state_length site.now }
     ensures { state.new ≡ fresh site.now }
 {
-    let records = index::records(site).iter().filter_map(fresh_record);
-    for (i, t) in records.enumerate() {
-        octets::put_group(state, i, &t);
+    let mut place = 0;
+    for s in index::records(site) {
+        if let Some(t) = fresh_record(s) {
+            octets::put_group(state, place, &t);
+            place += 1;
+        }
     }
 }
