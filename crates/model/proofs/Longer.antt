@@ -177,12 +177,12 @@ module _ (site long : List ℕ) (as_long : length long ≡ length site) where
 
 -- ── well formed
 
--- A rule or a factor is well formed without a record.
-none_well : (ss : List (List ℕ)) (s : List ℕ) → kept s ≡ false → record_well ss (s, []) ≡ true
+-- What has no state is well formed with whatever stands beside it.
+pub none_well : (ss : List (List ℕ)) (s t : List ℕ) → kept s ≡ false → record_well ss (s, t) ≡ true
 unfolding kept record_well
-none_well ss s h = go (record_kind s) h
+none_well ss s t h = go (record_kind s) h
   where
-    go : (k : Option RecordKind) → kept_kind k ≡ false → record_well_as k ss (s, []) ≡ true
+    go : (k : Option RecordKind) → kept_kind k ≡ false → record_well_as k ss (s, t) ≡ true
     go (Some OfZone) h = cc
     go (Some OfPoint) h = cc
     go (Some OfRule) h = refl
@@ -206,7 +206,7 @@ module _ (ss : List (List ℕ)) where
       go : (c : Bool) → kept x.0 ≡ c → (if c then record_well ss x else clear 0 32 x.1) ≡ true → all (record_well ss) (erase xs) ≡ true → all zero_else xs ≡ true →
           (all (record_well ss) ((x.0, if c then x.1 else []) ∷ erase xs) ≡ true) × (all zero_else (x ∷ xs) ≡ true)
       go true e w r z = (rw (w, r), rw (e, z))
-      go false e w r z = (rw (none_well ss x.0 e, r), rw (e, w, z))
+      go false e w r z = (rw (none_well ss x.0 [] e, r), rw (e, w, z))
 
   well_joined : (ps : Panel) → all (record_well ss) (erase ps) ≡ true → all zero_else ps ≡ true → all (long_record_well ss) ps ≡ true
   unfolding erase erase_pair long_record_well zero_else

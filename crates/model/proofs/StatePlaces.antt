@@ -15,30 +15,51 @@ use Rattle.model.specs.State.{kept, state_size, state_length, state_place, paire
 use Rattle.model.specs.InPlace.{part_of}
 use Rattle.model.specs.Demands.{StateInPlace}
 
--- As many stand before a record's state record as before the one after it, less its own.
+-- ── how many of the first elements pass a test
+
+module _ {A : Type 0} (q : A → Bool) where
+  abbrev pub passed : ℕ → List A → ℕ
+  passed i xs = length (keep q (take i xs))
+
+  pub first_passed : (x : A) (xs : List A) (i : ℕ) → passed (suc i) (x ∷ xs) ≡ (if q x then 1 else 0) + passed i xs
+  first_passed x xs i = go (q x)
+    where
+      go : (c : Bool) → length (if c then x ∷ keep q (take i xs) else keep q (take i xs)) ≡ (if c then 1 else 0) + passed i xs
+      go true = omega arith
+      go false = omega arith
+
+  pub next_passed : (xs : List A) (i : ℕ) (d : A) → i < length xs → passed (suc i) xs ≡ passed i xs + (if q (get_or xs i d) then 1 else 0)
+  next_passed [] i d h = absurd (omega (arith, h))
+  next_passed (x ∷ xs) zero d h = rw (first_passed x xs 0) (omega arith)
+  next_passed (x ∷ xs) (suc i) d h = omega (arith, first_passed x xs (suc i), first_passed x xs i, next_passed xs i d (omega (arith, h)))
+
+  -- One that passes stands there among those that do.
+  pub passed_at : (xs : List A) (i : ℕ) (d : A) → i < length xs → q (get_or xs i d) ≡ true →
+      (passed i xs < length (keep q xs)) × (get_or (keep q xs) (passed i xs) d ≡ get_or xs i d)
+  passed_at [] i d h k = absurd (omega (arith, h))
+  passed_at (x ∷ xs) zero d h k = rw k (omega arith, refl)
+  passed_at (x ∷ xs) (suc i) d h k = rw (first_passed x xs i) (go (q x) (passed_at xs i d (omega (arith, h)) k))
+    where
+      go : (c : Bool) → (passed i xs < length (keep q xs)) × (get_or (keep q xs) (passed i xs) d ≡ get_or xs i d) →
+          ((if c then 1 else 0) + passed i xs < length (if c then x ∷ keep q xs else keep q xs))
+          × (get_or (if c then x ∷ keep q xs else keep q xs) ((if c then 1 else 0) + passed i xs) d ≡ get_or xs i d)
+      go true t = let s : 1 + passed i xs ≡ suc (passed i xs) = omega arith in rw s (omega (arith, t.0), t.1)
+      go false t = let s : 0 + passed i xs ≡ passed i xs = omega arith in rw s t
+
+-- ── the place of a state record: those before it that have state
+
 pub place_first : (s : List ℕ) (ss : List (List ℕ)) (i : ℕ) → state_place (suc i) (s ∷ ss) ≡ (if kept s then 1 else 0) + state_place i ss
 unfolding state_place
-place_first s ss i = go (kept s)
-  where
-    go : (c : Bool) → length (if c then s ∷ keep kept (take i ss) else keep kept (take i ss)) ≡ (if c then 1 else 0) + length (keep kept (take i ss))
-    go true = omega arith
-    go false = omega arith
+place_first s ss i = first_passed kept s ss i
 
 pub place_next : (ss : List (List ℕ)) (i : ℕ) → i < length ss → state_place (suc i) ss ≡ state_place i ss + (if kept (get_or ss i []) then 1 else 0)
-place_next [] i h = absurd (omega (arith, h))
-place_next (s ∷ ss) zero h = rw (place_first s ss 0) (unfold state_place in omega arith)
-place_next (s ∷ ss) (suc i) h =
-    omega (arith, place_first s ss (suc i), place_first s ss i, place_next ss i (omega (arith, h)))
+unfolding state_place
+place_next ss i h = next_passed kept ss i [] h
 
 -- It is a place among those that have state.
 pub place_below : (ss : List (List ℕ)) (i : ℕ) → i < length ss → kept (get_or ss i []) ≡ true → state_place i ss < length (keep kept ss)
-place_below [] i h k = absurd (omega (arith, h))
-place_below (s ∷ ss) zero h k = rw k (unfold state_place in omega arith)
-place_below (s ∷ ss) (suc i) h k = rw (place_first s ss i) (go (kept s) (place_below ss i (omega (arith, h)) k))
-  where
-    go : (c : Bool) → state_place i ss < length (keep kept ss) → (if c then 1 else 0) + state_place i ss < length (if c then s ∷ keep kept ss else keep kept ss)
-    go true l = omega (arith, l)
-    go false l = omega (arith, l)
+unfolding state_place
+place_below ss i h k = (passed_at kept ss i [] h k).0
 
 -- Behind the state of a record the places of the others are counted anew.
 behind : (s : List ℕ) (ss : List (List ℕ)) (i : ℕ) (state : List ℕ) →

@@ -1,6 +1,6 @@
 -- The pairs of a panel: the records of the site and those of the state side by side.
-use Rattle.std.specs.List.{zip, filter}
-use Rattle.std.specs.Prelude.{if◌then◌else◌, cond, Option, Some, None}
+use Rattle.std.specs.List.{zip}
+use Rattle.std.specs.Prelude.{if◌then◌else◌}
 use Prim.Native.Nat.{ℕ, zero, suc, ◌/◌}
 use native.Mathlib.Omega.{arith}
 use mathlib.Core.Path.{◌≡◌, refl, ap}
@@ -9,21 +9,10 @@ use mathlib.Core.Bool.{Bool, true, false, ◌&&◌}
 use lib.ListN.{length, take, drop}
 use Rattle.octets.specs.Octets.{groups}
 use Rattle.model.specs.Words.{keep, all}
-use Rattle.model.specs.Site.{record_kind, records}
-use Rattle.model.specs.State.{Pair, kept_kind, kept, state_size, paired, panel, state_length, record_well_as, record_well}
+use Rattle.model.specs.Site.{records}
+use Rattle.model.specs.State.{Pair, kept, state_size, paired, panel, state_length}
 use Rattle.model.specs.Longer.{long_panel}
 use Rattle.index.proofs.Building.{length_records}
-use Rattle.model.specs.declared.RecordKind.{RecordKind}
-use Rattle.model.specs.declared.RecordKind.TheVariants.{OfZone, OfPoint, OfRule, OfCredential, OfFactor}
-
--- What the library's `filter` keeps.
-pub filter_is : {A : Type 0} (q : A → Bool) (xs : List A) → filter q xs ≡ keep q xs
-filter_is q [] = refl
-filter_is q (x ∷ xs) = go (q x) (filter_is q xs)
-  where
-    go : (c : Bool) → filter q xs ≡ keep q xs → cond c (x ∷ filter q xs) (filter q xs) ≡ if c then x ∷ keep q xs else keep q xs
-    go true h = ap (λ ys. x ∷ ys) h
-    go false h = h
 
 -- The records that have state, beside those of the state: where the others pass a test, it tells the same of the whole panel.
 module _ (q : Pair → Bool) (passes : (s t : List ℕ) → kept s ≡ false → q (s, t) ≡ true) where
@@ -55,16 +44,3 @@ zip_groups (s ∷ ss) (suc n) state h = ap (λ ps. (s, take 32 state) ∷ ps) (z
 pub zip_panel : (site long : List ℕ) → length long ≡ length site → zip (records site) (groups 32 (length long / 32) long) ≡ long_panel site long
 unfolding long_panel
 zip_panel site long h = rw h (zip_groups (records site) (length site / 32) long (length_records site))
-
--- What has no state is well formed.
-pub others_well : (ss : List (List ℕ)) (s t : List ℕ) → kept s ≡ false → record_well ss (s, t) ≡ true
-unfolding record_well kept
-others_well ss s t = go (record_kind s)
-  where
-    go : (k : Option RecordKind) → kept_kind k ≡ false → record_well_as k ss (s, t) ≡ true
-    go (Some OfZone) h = cc
-    go (Some OfPoint) h = cc
-    go (Some OfRule) h = refl
-    go (Some OfCredential) h = cc
-    go (Some OfFactor) h = refl
-    go None h = refl

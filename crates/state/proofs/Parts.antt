@@ -16,45 +16,16 @@ use Rattle.model.specs.State.{Pair, kept, state_size, state_place, paired, panel
 use Rattle.model.specs.InPlace.{part_of}
 use Rattle.model.specs.Longer.{long_panel, shorter, long_record}
 use Rattle.model.proofs.Flat.{sites_panel, length_fresh_record}
-use Rattle.model.proofs.StatePlaces.{place_within, panel_at}
+use Rattle.model.proofs.StatePlaces.{passed, next_passed, passed_at, place_within, panel_at}
 use Rattle.index.proofs.Building.{length_records}
 
 -- ── a state written from the elements that pass a test, a record of each
 
 module _ {A : Type 0} (q : A → Bool) (f : A → List ℕ) (xs : List A) (room : List ℕ) where
-  -- How many of the first i pass.
-  abbrev passed : ℕ → List A → ℕ
-  passed i ys = length (keep q (take i ys))
-
-  first_passed : (y : A) (ys : List A) (i : ℕ) → passed (suc i) (y ∷ ys) ≡ (if q y then 1 else 0) + passed i ys
-  first_passed y ys i = go (q y)
-    where
-      go : (c : Bool) → length (if c then y ∷ keep q (take i ys) else keep q (take i ys)) ≡ (if c then 1 else 0) + passed i ys
-      go true = omega arith
-      go false = omega arith
-
-  next_passed : (ys : List A) (i : ℕ) (d : A) → i < length ys → passed (suc i) ys ≡ passed i ys + (if q (get_or ys i d) then 1 else 0)
-  next_passed [] i d h = absurd (omega (arith, h))
-  next_passed (y ∷ ys) zero d h = rw (first_passed y ys 0) (omega arith)
-  next_passed (y ∷ ys) (suc i) d h = omega (arith, first_passed y ys (suc i), first_passed y ys i, next_passed ys i d (omega (arith, h)))
-
-  -- One that passes stands there among those that do.
-  passed_at : (ys : List A) (i : ℕ) (d : A) → i < length ys → q (get_or ys i d) ≡ true →
-      (passed i ys < length (keep q ys)) × (get_or (keep q ys) (passed i ys) d ≡ get_or ys i d)
-  passed_at [] i d h k = absurd (omega (arith, h))
-  passed_at (y ∷ ys) zero d h k = rw k (omega arith, refl)
-  passed_at (y ∷ ys) (suc i) d h k = rw (first_passed y ys i) (go (q y) (passed_at ys i d (omega (arith, h)) k))
-    where
-      go : (c : Bool) → (passed i ys < length (keep q ys)) × (get_or (keep q ys) (passed i ys) d ≡ get_or ys i d) →
-          ((if c then 1 else 0) + passed i ys < length (if c then y ∷ keep q ys else keep q ys))
-          × (get_or (if c then y ∷ keep q ys else keep q ys) ((if c then 1 else 0) + passed i ys) d ≡ get_or ys i d)
-      go true t = let s : 1 + passed i ys ≡ suc (passed i ys) = omega arith in rw s (omega (arith, t.0), t.1)
-      go false t = let s : 0 + passed i ys ≡ passed i ys = omega arith in rw s t
-
   -- Of the first i elements those that pass are written.
   pub record Put (i place : ℕ) (state : List ℕ) : Type 0 where
     pub few : place ≤ i
-    pub count : place ≡ passed i xs
+    pub count : place ≡ passed q i xs
     pub bytes : state ≡ written f 32 (keep q xs) room place
 
   pub put_start : Put 0 0 room
@@ -64,21 +35,21 @@ module _ {A : Type 0} (q : A → Bool) (f : A → List ℕ) (xs : List A) (room 
     pub put_other : q (get_or xs i d) ≡ false → Put (i + 1) place state
     put_other k =
         let n : i + 1 ≡ suc i = omega arith in
-        record { few = omega (arith, so_far.few); count = rw n (omega (arith, so_far.count, rw k at (next_passed xs i d h))); bytes = so_far.bytes }
+        record { few = omega (arith, so_far.few); count = rw n (omega (arith, so_far.count, rw k at (next_passed q xs i d h))); bytes = so_far.bytes }
 
     module _ (same_length : length state ≡ length room) (k : q (get_or xs i d) ≡ true) where
       pub put_asks : (32 < 9223372036854775808) × ((0 < 32) × (place < length state / 32))
-      put_asks = (omega arith, (omega arith, omega (arith, so_far.count, (passed_at xs i d h k).0)))
+      put_asks = (omega arith, (omega arith, omega (arith, so_far.count, (passed_at q xs i d h k).0)))
 
       pub put_more : (state' : List ℕ) → state' ≡ with_part 32 place (f (get_or xs i d)) state → Put (i + 1) (place + 1) state'
       put_more state' e =
           let n : i + 1 ≡ suc i = omega arith in
-          let p = passed_at xs i d h k in
+          let p = passed_at q xs i d h k in
           let w : place < length (keep q xs) = omega (arith, so_far.count, p.0) in
           let g : get_or (keep q xs) place d ≡ get_or xs i d = rw so_far.count p.1 in
           record {
             few = omega (arith, so_far.few);
-            count = rw n (omega (arith, so_far.count, rw k at (next_passed xs i d h)));
+            count = rw n (omega (arith, so_far.count, rw k at (next_passed q xs i d h)));
             bytes = written_step f 32 (keep q xs) room place d state state' w (omega (arith, w, fits)) same_length so_far.bytes (rw (← g) at e);
           }
 
