@@ -74,12 +74,6 @@ impl<'s, 'w> IndexedSite<'s, 'w> {
         IndexedSite { site, words }
     }
 
-    pub fn bytes(&self) -> &'s [u8]
-        ensures { result.now ≡ self.now }
-    {
-        self.site
-    }
-
     pub fn records(&self) -> &'s [Record]
         ensures value { result.now ≡ records self.now }
         ensures few { length (records self.now) ≤ most_records }
