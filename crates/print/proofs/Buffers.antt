@@ -6,6 +6,7 @@ use mathlib.Core.List.{List}
 use mathlib.Core.Bool.{Bool, true, false}
 use lib.ListN.{length, length-replicate}
 use Rattle.model.specs.Words.{zeros}
+use Rattle.model.specs.State.{state_length}
 use Rattle.model.specs.Calls.{is_worked, fresh_returned, fresh_state, check_state, run_returned, run_journal}
 use Rattle.model.specs.Print.{from_fresh, print_journal}
 use Rattle.print.specs.Print.{text_of, run_into}
@@ -38,10 +39,10 @@ module _ (site journal s t a b : List ℕ) (l : length s ≡ length t) (m : leng
       go false e = rw (same_returned, e)
 
 -- In buffers of the lengths that a run asks for, the text is the paper's.
-pub prints_journal : (site journal state answers : List ℕ) → length state ≡ length site → length answers ≡ length journal / 24 * 16
+pub prints_journal : (site journal state answers : List ℕ) → length state ≡ state_length site → length answers ≡ length journal / 24 * 16
     → text_of (run_into site journal state answers) ≡ print_journal site journal
 unfolding print_journal from_fresh
 prints_journal site journal state answers l m =
-    same_text site journal state (zeros (length site)) answers (zeros (length journal / 24 * 16))
-    (l ∙ sym (length-replicate (length site) 0)) (m ∙ sym (length-replicate (length journal / 24 * 16) 0))
+    same_text site journal state (zeros (state_length site)) answers (zeros (length journal / 24 * 16))
+    (l ∙ sym (length-replicate (state_length site) 0)) (m ∙ sym (length-replicate (length journal / 24 * 16) 0))
     ∙ unfold text_of run_into in refl

@@ -12,7 +12,7 @@ use lib.ListN.{length, drop, length-append}
 use borrow.Author.Tests.{leb-true}
 use Rattle.model.specs.Calls.{Returned, number, is_worked, fresh_state, run_journal}
 use Rattle.model.specs.Print.{answers_text, decimal_line}
-use Rattle.calls.proofs.Laws.{run_lengths}
+use Rattle.calls.proofs.Laws.{answers_length}
 use Rattle.print.specs.Print.{has_room, text_of, run_into, PrintResult, print_result, print_into}
 use Rattle.model.specs.declared.Refusal.TheVariants.{SiteLength, SiteField, SiteTwice, SiteMissing, StateLength, StateForm, JournalLength, AnswersLength}
 
@@ -49,7 +49,7 @@ module _ (site journal state answers text : List ℕ) where
     pub lines_fit : is_worked returned ≡ true → length answers / 16 * 33 ≤ length text
     unfolding has_room run_into run_journal
     lines_fit w =
-        let l = (run_lengths site (fresh_state site state).state journal answers (rw e at w)).1 in
+        let l = answers_length site (fresh_state site state).state journal answers (rw e at w) in
         let m = leb-true (length journal / 24 * 33) (length text) (and_parts (leb (length journal / 24 * 33) (length text)) (leb 3 (length text)) h).0 in
         omega arith
 

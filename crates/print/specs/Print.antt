@@ -31,7 +31,7 @@ has_room journal text = leb (length journal / entry_size * line_size) (length te
 unfoldable pub text_of : RunResult → List ℕ
 text_of r = if is_worked r.returned then answers_text r.answers else decimal_line (number r.returned)
 
--- A run from fresh in the lent state and answers. A state that is not as long as the site, or answers that are not 16 bytes for an entry,
+-- A run from fresh in the lent state and answers. A state that is not as long as a state of the site, or answers that are not 16 bytes for an entry,
 -- are turned back as in every call.
 unfoldable pub run_into : List ℕ → List ℕ → List ℕ → List ℕ → RunResult
 run_into site journal state answers = run_journal site (fresh_state site state).state journal answers

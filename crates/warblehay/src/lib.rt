@@ -11,10 +11,10 @@ ghost use Rattle.wiegand.specs.Wiegand.{read_wiegand26, write_wiegand26};
 ghost use Rattle.warblehay.specs.Numbered.{numbered_state, numbered_run, numbered_reading};
 ghost use Rattle.warblehay.specs.PlaceNumber.{place_numbers};
 
-use index::Place;
 use model::numbers::RECORD_SIZE;
 use model::{CredentialId, PointId, ZoneId};
 use site::lookup::place_of;
+use site::object::Object;
 
 // The place of a record that is not there.
 pub const NOWHERE: usize = 18446744073709551615;
@@ -52,16 +52,18 @@ pub extern "C" fn warblehay_run_journal(
     calls::number_of(view::run_journal(site, state, journal, answers))
 }
 
-// C has no Option, so that a number stands for no place. The offset is handed out by the lent word.
-fn place_number(place: Option<Place>, state_offset: &mut usize) -> usize
-    ensures { (result, state_offset.new) ≡ place_numbers place }
+// The place of the first record of an object, and the offset of its state record, which is handed out by the lent word. C has no Option, so that a number
+// stands for no place.
+#[tactic(auto, using(crate::proofs::Places::state_fits))]
+fn place_number<O: Object>(site: &[u8], object: O, state_offset: &mut usize) -> usize
+    ensures { (result, state_offset.new) ≡ place_numbers (place_of O.KIND (O.instance object) site.now) }
 {
-    let Some(p) = place else {
+    let Some(place) = place_of(site, object) else {
         *state_offset = NOWHERE;
         return NOWHERE;
     };
-    *state_offset = p.state * RECORD_SIZE;
-    p.site
+    *state_offset = place.state * RECORD_SIZE;
+    place.site
 }
 
 // How long the state of a site is, on any bytes.
@@ -93,21 +95,29 @@ pub extern "C" fn warblehay_lengthen_state(site: &[u8], state: &[u8], longer: &m
 pub extern "C" fn warblehay_place_of_zone(site: &[u8], zone: u32, state_offset: &mut usize) -> usize
     ensures { (result, state_offset.new) ≡ place_numbers (place_of access_zone zone site.now) }
 {
-    place_number(place_of(site, ZoneId(zone)), state_offset)
+    place_number(site, ZoneId(zone), state_offset)
 }
 
 #[unsafe(no_mangle)]
-pub extern "C" fn warblehay_place_of_point(site: &[u8], point: u32, state_offset: &mut usize) -> usize
+pub extern "C" fn warblehay_place_of_point(
+    site: &[u8],
+    point: u32,
+    state_offset: &mut usize,
+) -> usize
     ensures { (result, state_offset.new) ≡ place_numbers (place_of access_point point site.now) }
 {
-    place_number(place_of(site, PointId(point)), state_offset)
+    place_number(site, PointId(point), state_offset)
 }
 
 #[unsafe(no_mangle)]
-pub extern "C" fn warblehay_place_of_credential(site: &[u8], credential: u32, state_offset: &mut usize) -> usize
+pub extern "C" fn warblehay_place_of_credential(
+    site: &[u8],
+    credential: u32,
+    state_offset: &mut usize,
+) -> usize
     ensures { (result, state_offset.new) ≡ place_numbers (place_of access_credential credential site.now) }
 {
-    place_number(place_of(site, CredentialId(credential)), state_offset)
+    place_number(site, CredentialId(credential), state_offset)
 }
 
 // Raw 26-bit readers: the factor of the bits, or format and value as they were where nothing is made.
