@@ -8,7 +8,7 @@ ghost use Rattle.clear.specs.Clear.{with_first};
 // The first bytes of an index, `count` of them, or all where it has fewer.
 #[tactic(auto, using(crate::proofs::Laws::first_made))]
 #[unsafe(no_mangle)]
-pub extern "C" fn warblehay_clear(index: &mut [u8; 6080], byte: u32, count: usize)
+pub extern "C" fn warblehay_clear(index: &mut [u8; 7082], byte: u32, count: usize)
     ensures { index.new ≡ with_first count (byte % 256) index.old }
 {
     // The remainder is a byte.
