@@ -1,7 +1,10 @@
 //! The site, the journal and the text of document 01's printed journal are the files of the printing
 //! program, here and in docs/FORMATS.md.
 
+use reference::journal::run_journal;
+use reference::numbers::{ANSWER_LENGTH, ENTRY_LENGTH};
 use reference::scenarios::paper_cases::{printed_journal, printed_site, PRINTED};
+use reference::state::{fresh_state, state_length};
 use std::fs;
 use std::path::Path;
 
@@ -37,11 +40,27 @@ fn digits_in(text: &str) -> String {
     digits.flat_map(|digits| digits.split(' ')).collect()
 }
 
+fn digits_of(bytes: &[u8]) -> String {
+    bytes.iter().map(|byte| format!("{byte:02X}")).collect()
+}
+
+/// The state that the journal leaves, from fresh.
+fn state_left() -> Vec<u8> {
+    let (site, journal) = (site(), journal());
+    let mut state = vec![0; state_length(&site)];
+    let mut answers = vec![0; journal.len() / ENTRY_LENGTH * ANSWER_LENGTH];
+    assert_eq!(fresh_state(&site, &mut state), 0);
+    assert_eq!(run_journal(&site, &mut state, &journal, &mut answers), 0);
+    state
+}
+
 #[test]
 fn the_formats_show_the_bytes_of_the_example() {
     let formats = String::from_utf8(file("docs/FORMATS.md")).expect("text");
     let (_, shown) = formats.split_once("## An example").expect("the example");
-    let bytes = [site(), journal()].concat();
-    let digits: String = bytes.iter().map(|byte| format!("{byte:02X}")).collect();
-    assert_eq!(digits_in(shown), digits + &PRINTED.replace('\n', ""));
+    let files = digits_of(&[site(), journal()].concat());
+    assert_eq!(
+        digits_in(shown),
+        files + &PRINTED.replace('\n', "") + &digits_of(&state_left())
+    );
 }
