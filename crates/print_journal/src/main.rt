@@ -49,8 +49,8 @@ impl<'n> fmt::Display for Failure<'n> {
     }
 }
 
-// Reads until the file ends or the buffer is full, and hands back the part that was filled, no longer than the buffer: so long is the state that
-// `print_files` lends. The loop is a `while`: the count moves by what a read gives, and no iterator of std's promises that.
+// Reads until the file ends or the buffer is full, and hands back the part that was filled, no longer than the buffer: so the state of a site fits the room
+// that `print_files` has for one. The loop is a `while`: the count moves by what a read gives, and no iterator of std's promises that.
 fn read_open<'a>(file: &mut File, bytes: &'a mut [u8]) -> io::Result<&'a [u8]>
     ensures { IfOk result (λ part. length part.now ≤ length bytes.old) }
 {
@@ -127,12 +127,13 @@ fn print_files<'n>(
     let mut state = [0u8; SITE_ROOM];
     let mut answers = [0u8; ANSWERS_ROOM];
     let mut text = [0u8; TEXT_ROOM];
+    let state_size = view::state_length(site);
     let answers_size = journal.len() / ENTRY_SIZE * ANSWER_SIZE;
     print_bytes(
         rt,
         site,
         journal,
-        &mut state[..site.len()],
+        &mut state[..state_size],
         &mut answers[..answers_size],
         &mut text,
     )
