@@ -12,12 +12,11 @@ use lib.Seq.{get_or-set_same, get_or-set_other, length-take-le}
 use Rattle.std.proofs.lemmas.List.{drop_all, drop_more, get_or-append-add, get_or-replicate, length-replicate}
 use borrow.Author.Tests.{eqb-true, eqb-false, eq-eqb, ne_eqb}
 use Rattle.octets.proofs.GroupLaws.{length_groups}
-use Rattle.model.specs.Words.{bit_of}
 use Rattle.model.specs.Site.{records}
 use Rattle.model.specs.State.{kept}
-use Rattle.index.specs.Index.{most_records, buckets, kind_classes, index_size, count_step, chain_scale, bucket_of, mark_of, tags_of, chain_from, kind_class, next_in, head, kind_head, kind_last, link, kept_from, count_at, IndexedFrom}
+use Rattle.index.specs.Index.{most_records, buckets, kind_classes, index_size, count_step, chain_scale, bucket_of, mark_of, tags_of, chain_from, kind_class, next_in, head, kind_head, kind_last, link, count_from, count_more, count_at, IndexedFrom}
 use Rattle.index.proofs.Walks.{next_high, next_turn, next_end}
-use Rattle.index.proofs.Counts.{kept_end, kept_one}
+use Rattle.index.proofs.Counts.{count_end, count_step_law}
 
 -- Where the counts stand.
 abbrev counts_from : ℕ
@@ -79,8 +78,8 @@ emptied ss index size few h =
       kinds = kinds;
       lasts = λ c l m. absurd (omega (arith, kinds c l, next_end kind_class c (length ss) ss (omega arith)));
       links = λ i l m. absurd (omega arith);
-      counts = λ m l g. let z : m * count_step ≡ length ss = omega arith in let y : m ≡ length ss / count_step = omega arith in rw (z, y, kept_end ss) zero;
-      counted = rw (kept_end ss) zero;
+      counts = λ m l g. let z : m * count_step ≡ length ss = omega arith in let y : m ≡ length ss / count_step = omega arith in rw (z, y, count_end ss) zero;
+      counted = rw (count_end ss) zero;
     }
   where
     at : ℕ
@@ -192,7 +191,7 @@ module _ (i : ℕ) (ss : List (List ℕ)) (index : List ℕ) (h : i < length ss)
       go false e = away j m ∙ get_or-set_other index i j (head b index) 0 (eqb-false j i e) ∙ x.links j (more (eqb-false j i e)) m
 
   -- And how many have state from it on is written to the count of its four records.
-  module _ (count : ℕ) (more : count ≡ count_at ((i + 1) / count_step) index + bit_of (kept (get_or ss i []))) where
+  module _ (count : ℕ) (more : count ≡ count_more (count_at ((i + 1) / count_step) index) i (kept (get_or ss i []))) where
     abbrev place : ℕ
     place = counts_from + i / count_step
 
@@ -202,19 +201,19 @@ module _ (i : ℕ) (ss : List (List ℕ)) (index : List ℕ) (h : i < length ss)
     aside : (j : ℕ) → (j ≡ place → ⊥) → get_or five j 0 ≡ get_or four j 0
     aside j n = get_or-set_other four place j count 0 n
 
-    counted : count_at (i / count_step) five ≡ kept_from i ss
+    counted : count_at (i / count_step) five ≡ count_from i ss
     counted =
         get_or-set_same four place count 0 (simp (length-set, length-set, length-set, length-set) (omega (arith, x.size, x.few)))
-        ∙ more ∙ rw x.counted (sym (kept_one i ss h))
+        ∙ more ∙ rw x.counted (count_step_law i ss h)
 
-    counts : (m : ℕ) → i ≤ m * count_step → m * count_step ≤ length ss → count_at m five ≡ kept_from (m * count_step) ss
+    counts : (m : ℕ) → i ≤ m * count_step → m * count_step ≤ length ss → count_at m five ≡ count_from (m * count_step) ss
     counts m l g = go (eqb (i / count_step) m) refl
       where
-        go : (t : Bool) → eqb (i / count_step) m ≡ t → count_at m five ≡ kept_from (m * count_step) ss
+        go : (t : Bool) → eqb (i / count_step) m ≡ t → count_at m five ≡ count_from (m * count_step) ss
         go true e =
             let q : i / count_step ≡ m = eqb-true (i / count_step) m e in
             let z : m * count_step ≡ i = omega (arith, q) in
-            let w : count_at m five ≡ kept_from i ss = rw (← q) counted in
+            let w : count_at m five ≡ count_from i ss = rw (← q) counted in
             rw z w
         go false e =
             let n : i / count_step ≡ m → ⊥ = eqb-false (i / count_step) m e in

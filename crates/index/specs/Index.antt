@@ -1,8 +1,8 @@
 -- The index of a site's records: the bucket of a record, the next record of a bucket, how many records have state, and what the numbers of an index are.
-use Rattle.std.specs.Prelude.{ℕ, suc, ◌+◌, ◌*◌, ◌/◌, ◌%◌, ◌^◌, ◌≤◌, ◌<◌, ◌≡◌, List, [], ◌∷◌, Bool, ◌&&◌, eqb, length, drop, get_or, if◌then◌else◌}
+use Rattle.std.specs.Prelude.{ℕ, suc, ◌+◌, ◌-◌, ◌*◌, ◌/◌, ◌%◌, ◌^◌, ◌≤◌, ◌<◌, ◌≡◌, List, [], ◌∷◌, Bool, ◌&&◌, eqb, length, take, drop, get_or, if◌then◌else◌}
 use Rattle.std.specs.Int.Bits.{bit_or}
 use Rattle.octets.specs.Octets.{field}
-use Rattle.model.specs.Words.{keep}
+use Rattle.model.specs.Words.{keep, bit_of}
 use Rattle.model.specs.Numbers.{access_rule, authentication_factor, role_identifying}
 use Rattle.model.specs.Site.{kind, instance, everywhere, location_kind, location, role, format, records}
 use Rattle.model.specs.State.{kept}
@@ -21,8 +21,12 @@ kind_classes = 8
 abbrev pub index_size : ℕ
 index_size = 3541
 
+-- A count is how many records have state from a fourth one on, and below the scale a bit for each of the four.
 abbrev pub count_step : ℕ
 count_step = 4
+
+abbrev pub count_scale : ℕ
+count_scale = 16
 
 -- A link or a head is a chain: the number of its first record below the scale, and above it the tags of its rules, a bit each; the tags; classes of
 -- rules, each of a bucket and a tag.
@@ -128,10 +132,29 @@ link i index = get_or index i 0
 abbrev pub after : Bool → ℕ → ℕ → List (List ℕ) → List ℕ → ℕ
 after along k i ss index = if along then record_of (link i index) else next_in kind k (i + 1) ss
 
--- How many records have state from the i-th on, and the number that stands for that from the m-th fourth record on.
+-- How many records have state from the i-th on.
 abbrev pub kept_from : ℕ → List (List ℕ) → ℕ
 kept_from i ss = length (keep kept (drop i ss))
 
+-- The bits of those that have state among some, that of the first of the worth w.
+abbrev pub bits_of : ℕ → List (List ℕ) → ℕ
+bits_of w [] = 0
+bits_of w (s ∷ ss) = bit_of (kept s) * w + bits_of (w + w) ss
+
+-- The count from the i-th record on, with the bits of those up to the next fourth one.
+abbrev pub count_from : ℕ → List (List ℕ) → ℕ
+count_from i ss = kept_from i ss * count_scale + bits_of (2 ^ (i % count_step)) (take (count_step - i % count_step) (drop i ss))
+
+-- The count from the i-th record on, of that from the next one on: the bits of other four are left.
+abbrev pub count_more : ℕ → ℕ → Bool → ℕ
+count_more next i has =
+    (if eqb (i % count_step) 3 then next / count_scale * count_scale else next) + (if has then count_scale + 2 ^ (i % count_step) else 0)
+
+-- How many bits of a number below 8 are set.
+abbrev pub ones : ℕ → ℕ
+ones n = n - n / 2 - n / 4
+
+-- The number that stands for the m-th fourth record.
 abbrev pub count_at : ℕ → List ℕ → ℕ
 count_at m index = get_or index (most_records + buckets + kind_classes + kind_classes + m) 0
 
@@ -145,8 +168,8 @@ pub record IndexedFrom (k : ℕ) (ss : List (List ℕ)) (index : List ℕ) : Typ
   pub kinds : (c : ℕ) → c < kind_classes → kind_head c index ≡ next_in kind_class c k ss
   pub lasts : (c : ℕ) → c < kind_classes → kind_head c index < length ss → next_in kind_class c (kind_last c index + 1) ss ≡ length ss
   pub links : (i : ℕ) → k ≤ i → i < length ss → link i index ≡ chain_from (bucket_of (get_or ss i [])) (i + 1) ss
-  pub counts : (m : ℕ) → k ≤ m * count_step → m * count_step ≤ length ss → count_at m index ≡ kept_from (m * count_step) ss
-  pub counted : count_at (k / count_step) index ≡ kept_from k ss
+  pub counts : (m : ℕ) → k ≤ m * count_step → m * count_step ≤ length ss → count_at m index ≡ count_from (m * count_step) ss
+  pub counted : count_at (k / count_step) index ≡ count_from k ss
 
 -- The i-th record, where there is one, is of a bucket.
 pub record OfBucket (b i : ℕ) (ss : List (List ℕ)) : Type 0 where

@@ -1,12 +1,15 @@
 // A site with the index of its records, and the first record in it of what is sought.
-ghost use Rattle.std.specs.Prelude.{◌≡◌, ℕ, List, Bool, true, [], ◌+◌, ◌%◌, ◌≤◌, ◌<◌, length, drop, get_or, position};
+ghost use Rattle.std.specs.Prelude.{◌≡◌, ℕ, List, Bool, true, [], ◌+◌, ◌*◌, ◌/◌, ◌%◌, ◌≤◌, ◌<◌, length, drop, get_or, position};
 ghost use Rattle.model.specs.Site as Site;
 ghost use Rattle.model.specs.Site.{records};
 ghost use Rattle.model.specs.State.{state_length};
-ghost use Rattle.index.specs.Index.{most_records, count_step, kept_from, kind_classes, kind_class, bucket_of, next_in, ChainFrom, Indexed, OfBucket};
+ghost use Rattle.index.specs.Index.{most_records, count_step, kept_from, count_from, kind_classes, kind_class, bucket_of, next_in, ChainFrom, Indexed, OfBucket};
 ghost use Rattle.index.specs.Place.{place_from, place_at};
 
-use super::{BUCKETS, Bucket, COUNT_STEP, COUNTS, Chain, KIND_CLASSES, MOST_RECORDS, Place, Words};
+use super::{
+    BUCKETS, Bucket, COUNT_SCALE, COUNT_STEP, COUNTS, Chain, KIND_CLASSES, MOST_RECORDS, Place,
+    Words,
+};
 use model::numbers::RECORD_SIZE;
 use records::Record;
 use std::marker::Model;
@@ -104,12 +107,19 @@ impl<'s, 'w> IndexedSite<'s, 'w> {
         super::link_of(self.words, i)
     }
 
-    // How many records have state from a fourth one on.
-    fn kept_from(&self, from: usize) -> u16
-        requires { (from % count_step ≡ 0) × (from ≤ length (records self.now)) }
-        ensures { result ≡ kept_from from (records self.now) }
+    // The count of the fourth record at or before the i-th.
+    fn count_of(&self, i: usize) -> u16
+        requires { i < length (records self.now) }
+        ensures { result ≡ count_from (i / count_step * count_step) (records self.now) }
     {
-        self.words[COUNTS + from / COUNT_STEP]
+        self.words[COUNTS + i / COUNT_STEP]
+    }
+
+    // How many records have state.
+    fn kept_count(&self) -> u16
+        ensures { result ≡ kept_from 0 (records self.now) }
+    {
+        self.words[COUNTS] / COUNT_SCALE
     }
 
     // How long the state is.
@@ -117,19 +127,20 @@ impl<'s, 'w> IndexedSite<'s, 'w> {
     pub fn state_length(&self) -> usize
         ensures { result ≡ state_length self.now }
     {
-        usize::from(self.kept_from(0)) * RECORD_SIZE
+        usize::from(self.kept_count()) * RECORD_SIZE
     }
 
-    // Where the i-th record and its state record stand: at most three records are read.
+    // Where the i-th record and its state record stand, without a look at another record.
     pub fn place(&self, i: usize) -> Place
         requires { i < length (records self.now) }
         ensures { result ≡ place_at i (records self.now) }
     {
-        let from = i / COUNT_STEP * COUNT_STEP;
-        let before = usize::from(self.kept_from(0) - self.kept_from(from));
+        let count = self.count_of(i);
+        let before = self.kept_count() - count / COUNT_SCALE;
+        let bits = count % (1 << (i % COUNT_STEP));
         Place {
             site: i,
-            state: before + super::kept_count(&self.records()[from..i]),
+            state: usize::from(before + super::ones(bits)),
         }
     }
 

@@ -44,6 +44,9 @@ const COUNTS: usize = 3040;
 
 const COUNT_STEP: usize = 4;
 
+// A count has how many records have state above the bits of its four records.
+const COUNT_SCALE: u16 = 16;
+
 pub const INDEX_SIZE: usize = 3541;
 
 // The numbers of an index, as one array: memory is fixed, and the definitions (`head`, `link`, `kind_head`) speak of one list of numbers.
@@ -238,6 +241,29 @@ fn last_after(head: u16, last: u16, end: u16, i: u16) -> u16
     if head == end { i } else { last }
 }
 
+// The count from the i-th record on, of that from the next one on: the bits of other four are left.
+fn count_more(next: u16, i: usize, has: bool) -> u16
+    requires { next ≤ 65000 }
+    ensures { result ≡ Index.count_more next i has }
+{
+    let at = i % COUNT_STEP;
+    let kept = if at == 3 {
+        next / COUNT_SCALE * COUNT_SCALE
+    } else {
+        next
+    };
+    let more = if has { COUNT_SCALE + (1 << at) } else { 0 };
+    kept + more
+}
+
+// How many bits of a number below 8 are set.
+fn ones(n: u16) -> u16
+    requires { n < 8 }
+    ensures { result ≡ Index.ones n }
+{
+    n - n / 2 - n / 4
+}
+
 // The i-th record is put at the head of its slot's bucket, and of its kind's class.
 fn put(records: &[Record], words: &mut Words, i: usize, slot: Slot)
     requires indexed_from { IndexedFrom (i + 1) records.now words.old }
@@ -253,7 +279,8 @@ fn put(records: &[Record], words: &mut Words, i: usize, slot: Slot)
         records.len() as u16,
         i as u16,
     );
-    let count = words[COUNTS + (i + 1) / COUNT_STEP] + u16::from(is_kept(&records[i]));
+    let next = words[COUNTS + (i + 1) / COUNT_STEP];
+    let count = count_more(next, i, is_kept(&records[i]));
     let chain = words[head];
     words[i] = chain;
     words[head] = Chain(chain).before(slot.mark, i as u16).0;

@@ -63,7 +63,9 @@ fn credential_well(site: &IndexedSite, s: &Record, t: &Record) -> bool
         & is_below_most(wrong_tries_of(t), most_wrong_tries_of(s))
 }
 
-// The state record t of the site record s: they stand in two files, as document 01 has them. A rule and a factor have none.
+// The state record t of the site record s: they stand in two files, as document 01 has them. A rule and a factor have none. It is inlined in both checks,
+// since each asks it of every record.
+#[inline(always)]
 fn record_well(site: &IndexedSite, s: &Record, t: &Record) -> bool
     ensures { result ≡ record_well (records site.now) (s.now, t.now) }
 {
