@@ -1,5 +1,5 @@
 -- How many records have state: of some, from one on, and before one.
-use Rattle.std.specs.Prelude.{if◌then◌else◌}
+use Rattle.std.specs.Prelude.{if◌then◌else◌, count_ones}
 use Prim.Native.Nat.{ℕ, zero, suc, ◌+◌, ◌-◌, ◌*◌, ◌/◌, ◌%◌, ◌^◌, ◌≤◌, ◌<◌}
 use mathlib.Core.Path.{◌≡◌, refl, sym, ap, ◌∙◌}
 use mathlib.Core.List.{List, [], ◌∷◌, ◌++◌}
@@ -12,7 +12,7 @@ use Rattle.std.specs.List.{filter}
 use Rattle.std.proofs.lemmas.List.{drop_all, drop_more, take-append-drop}
 use Rattle.model.specs.Words.{keep, bit_of}
 use Rattle.model.specs.State.{kept, state_place}
-use Rattle.index.specs.Index.{kept_from, bits_of, count_from, count_more, ones}
+use Rattle.index.specs.Index.{kept_from, bits_of, count_from, count_more}
 
 -- The library's `filter` keeps the same.
 pub filter_kept : (ss : List (List ℕ)) → filter kept ss ≡ keep kept ss
@@ -41,10 +41,7 @@ kept_both (s ∷ ss) ts = go (kept s) (kept_both ss ts)
     go true e = omega (arith, e)
     go false e = e
 
--- None from their number on; and the i-th with those after it.
-pub kept_end : (ss : List (List ℕ)) → kept_from (length ss) ss ≡ 0
-kept_end ss = rw (drop_all (length ss) ss (omega arith))
-
+-- The i-th with those after it.
 pub kept_one : (i : ℕ) (ss : List (List ℕ)) → i < length ss → kept_from i ss ≡ kept_from (i + 1) ss + bit_of (kept (get_or ss i []))
 kept_one i ss h = rw (drop_more ss i [] h) (go (kept (get_or ss i [])))
   where
@@ -129,38 +126,42 @@ count_few i ss = omega (arith, bits_below (i % 4) (omega arith) (drop i ss), kep
 pub count_end : (ss : List (List ℕ)) → count_from (length ss) ss ≡ 0
 count_end ss = rw (drop_all (length ss) ss (omega arith), take-nil (4 - length ss % 4))
 
+-- One more, with its bit, where it has state.
+one_more : (c : Bool) (s : List ℕ) (ss : List (List ℕ)) (w below : ℕ) →
+    length (keep kept ss) * 16 + below + (if c then 16 + w else 0) ≡ length (if c then s ∷ keep kept ss else keep kept ss) * 16 + (bit_of c * w + below)
+one_more true s ss w below = omega arith
+one_more false s ss w below = omega arith
+
 -- The count of a record and those after it, of that of those alone.
 count_cons : (r : ℕ) → r < 4 → (s : List ℕ) (ss : List (List ℕ)) (t : ℕ) → t ≡ (r + 1) % 4 →
     (if eqb r 3 then (length (keep kept ss) * 16 + bits_of (2 ^ t) (take (4 - t) ss)) / 16 * 16 else length (keep kept ss) * 16 + bits_of (2 ^ t) (take (4 - t) ss))
     + (if kept s then 16 + 2 ^ r else 0)
     ≡ length (keep kept (s ∷ ss)) * 16 + bits_of (2 ^ r) (take (4 - r) (s ∷ ss))
-count_cons zero h s ss t e = rw e (go (kept s))
-  where
-    go : (c : Bool) → length (keep kept ss) * 16 + bits_of 2 (take 3 ss) + (if c then 17 else 0) ≡ length (if c then s ∷ keep kept ss else keep kept ss) * 16 + (bit_of c * 1 + bits_of 2 (take 3 ss))
-    go true = omega arith
-    go false = omega arith
-count_cons (suc zero) h s ss t e = rw e (go (kept s))
-  where
-    go : (c : Bool) → length (keep kept ss) * 16 + bits_of 4 (take 2 ss) + (if c then 18 else 0) ≡ length (if c then s ∷ keep kept ss else keep kept ss) * 16 + (bit_of c * 2 + bits_of 4 (take 2 ss))
-    go true = omega arith
-    go false = omega arith
-count_cons (suc (suc zero)) h s ss t e = rw e (go (kept s))
-  where
-    go : (c : Bool) → length (keep kept ss) * 16 + bits_of 8 (take 1 ss) + (if c then 20 else 0) ≡ length (if c then s ∷ keep kept ss else keep kept ss) * 16 + (bit_of c * 4 + bits_of 8 (take 1 ss))
-    go true = omega arith
-    go false = omega arith
-count_cons (suc (suc (suc zero))) h s ss t e = rw e (go (kept s))
-  where
-    go : (c : Bool) → (length (keep kept ss) * 16 + bits_of 1 (take 4 ss)) / 16 * 16 + (if c then 24 else 0) ≡ length (if c then s ∷ keep kept ss else keep kept ss) * 16 + (bit_of c * 8 + 0)
-    go true = omega (arith, bits_below 0 (omega arith) ss)
-    go false = omega (arith, bits_below 0 (omega arith) ss)
+count_cons zero h s ss t e = rw e (one_more (kept s) s ss 1 (bits_of 2 (take 3 ss)))
+count_cons (suc zero) h s ss t e = rw e (one_more (kept s) s ss 2 (bits_of 4 (take 2 ss)))
+count_cons (suc (suc zero)) h s ss t e = rw e (one_more (kept s) s ss 4 (bits_of 8 (take 1 ss)))
+count_cons (suc (suc (suc zero))) h s ss t e =
+    let z : (length (keep kept ss) * 16 + bits_of 1 (take 4 ss)) / 16 * 16 ≡ length (keep kept ss) * 16 + 0 = omega (arith, bits_below 0 (omega arith) ss) in
+    rw (e, z) (one_more (kept s) s ss 8 0)
 count_cons (suc (suc (suc (suc r)))) h s ss t e = absurd (omega (arith, h))
 
 pub count_step_law : (i : ℕ) (ss : List (List ℕ)) → i < length ss → count_more (count_from (i + 1) ss) i (kept (get_or ss i [])) ≡ count_from i ss
 count_step_law i ss h = rw (drop_more ss i [] h) (count_cons (i % 4) (omega arith) (get_or ss i []) (drop (i + 1) ss) ((i + 1) % 4) (omega arith))
 
 -- As many of four as the bits below a place say.
-ones_law : (r : ℕ) → r < 4 → (ss : List (List ℕ)) → ones (bits_of 1 (take 4 ss) % 2 ^ r) ≡ length (keep kept (take r ss))
+few_ones : (n : ℕ) → n < 8 → count_ones n ≡ n - n / 2 - n / 4
+unfolding lib.Count.ones
+few_ones zero h = refl
+few_ones (suc zero) h = refl
+few_ones (suc (suc zero)) h = refl
+few_ones (suc (suc (suc zero))) h = refl
+few_ones (suc (suc (suc (suc zero)))) h = refl
+few_ones (suc (suc (suc (suc (suc zero))))) h = refl
+few_ones (suc (suc (suc (suc (suc (suc zero)))))) h = refl
+few_ones (suc (suc (suc (suc (suc (suc (suc zero))))))) h = refl
+few_ones (suc (suc (suc (suc (suc (suc (suc (suc n)))))))) h = absurd (omega (arith, h))
+
+ones_law : (r : ℕ) → r < 4 → (ss : List (List ℕ)) → let n = bits_of 1 (take 4 ss) % 2 ^ r in n - n / 2 - n / 4 ≡ length (keep kept (take r ss))
 ones_law zero h ss = omega arith
 ones_law (suc zero) h [] = refl
 ones_law (suc zero) h (s ∷ ss) = omega (arith, bits_double 1 (take 3 ss), bit_few (kept s), kept_cons s [])
@@ -185,24 +186,6 @@ ones_law (suc (suc (suc zero))) h (s ∷ t ∷ u ∷ ss) =
     )
 ones_law (suc (suc (suc (suc r)))) h ss = absurd (omega (arith, h))
 
--- So the count of the fourth record at or before the i-th, beside that of all, says how many have state before the i-th.
-pub place_counted : (i : ℕ) (ss : List (List ℕ)) → i < length ss →
-    kept_from 0 ss - count_from (i / 4 * 4) ss / 16 + ones (count_from (i / 4 * 4) ss % 2 ^ (i % 4)) ≡ state_place i ss
-place_counted i ss h =
-    let m = i / 4 * 4 in
-    let z : m % 4 ≡ 0 = omega arith in
-    let y : m + i % 4 ≡ i = omega arith in
-    let o = ones_law (i % 4) (omega arith) (drop m ss) in
-    let b = below (i % 4) (omega arith) (kept_from m ss) (bits_of 1 (take 4 (drop m ss))) in
-    rw (z, b, o) (omega (arith, rw z at (count_above m ss), kept_all m ss, rw y at (place_on m (i % 4) ss)))
-  where
-    below : (r : ℕ) → r < 4 → (n f : ℕ) → (n * 16 + f) % 2 ^ r ≡ f % 2 ^ r
-    below zero h n f = omega arith
-    below (suc zero) h n f = omega arith
-    below (suc (suc zero)) h n f = omega arith
-    below (suc (suc (suc zero))) h n f = omega arith
-    below (suc (suc (suc (suc r)))) h n f = absurd (omega (arith, h))
-
 -- The bit of a place among four, and what is left below it.
 pub shifted : (r : ℕ) → r < 4 → 1 * 2 ^ r % 65536 ≡ 2 ^ r
 shifted zero h = refl
@@ -217,3 +200,21 @@ low_bits (suc zero) h n = omega arith
 low_bits (suc (suc zero)) h n = omega arith
 low_bits (suc (suc (suc zero))) h n = omega arith
 low_bits (suc (suc (suc (suc r)))) h n = absurd (omega (arith, h))
+
+-- So the count of the fourth record at or before the i-th, beside that of all, says how many have state before the i-th.
+pub place_counted : (i : ℕ) (ss : List (List ℕ)) → i < length ss →
+    kept_from 0 ss - count_from (i / 4 * 4) ss / 16 + count_ones (count_from (i / 4 * 4) ss % 2 ^ (i % 4)) ≡ state_place i ss
+place_counted i ss h =
+    let m = i / 4 * 4 in
+    let z : m % 4 ≡ 0 = omega arith in
+    let y : m + i % 4 ≡ i = omega arith in
+    let o = ones_law (i % 4) (omega arith) (drop m ss) in
+    let b = below (i % 4) (omega arith) (kept_from m ss) (bits_of 1 (take 4 (drop m ss))) in
+    rw (z, b, few_ones (bits_of 1 (take 4 (drop m ss)) % 2 ^ (i % 4)) (low_bits (i % 4) (omega arith) _)) (omega (arith, o, rw z at (count_above m ss), kept_all m ss, rw y at (place_on m (i % 4) ss)))
+  where
+    below : (r : ℕ) → r < 4 → (n f : ℕ) → (n * 16 + f) % 2 ^ r ≡ f % 2 ^ r
+    below zero h n f = omega arith
+    below (suc zero) h n f = omega arith
+    below (suc (suc zero)) h n f = omega arith
+    below (suc (suc (suc zero))) h n f = omega arith
+    below (suc (suc (suc (suc r)))) h n f = absurd (omega (arith, h))

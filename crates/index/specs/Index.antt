@@ -150,10 +150,6 @@ abbrev pub count_more : ℕ → ℕ → Bool → ℕ
 count_more next i has =
     (if eqb (i % count_step) 3 then next / count_scale * count_scale else next) + (if has then count_scale + 2 ^ (i % count_step) else 0)
 
--- How many bits of a number below 8 are set.
-abbrev pub ones : ℕ → ℕ
-ones n = n - n / 2 - n / 4
-
 -- The number that stands for the m-th fourth record.
 abbrev pub count_at : ℕ → List ℕ → ℕ
 count_at m index = get_or index (most_records + buckets + kind_classes + kind_classes + m) 0

@@ -140,7 +140,7 @@ impl<'s, 'w> IndexedSite<'s, 'w> {
         let bits = count % (1 << (i % COUNT_STEP));
         Place {
             site: i,
-            state: usize::from(before + super::ones(bits)),
+            state: usize::from(before) + bits.count_ones() as usize,
         }
     }
 

@@ -256,14 +256,6 @@ fn count_more(next: u16, i: usize, has: bool) -> u16
     kept + more
 }
 
-// How many bits of a number below 8 are set.
-fn ones(n: u16) -> u16
-    requires { n < 8 }
-    ensures { result ≡ Index.ones n }
-{
-    n - n / 2 - n / 4
-}
-
 // The i-th record is put at the head of its slot's bucket, and of its kind's class.
 fn put(records: &[Record], words: &mut Words, i: usize, slot: Slot)
     requires indexed_from { IndexedFrom (i + 1) records.now words.old }
