@@ -7,7 +7,7 @@ use Rattle.std.specs.Prelude.{Ok, Err}
 use lib.ListN.{take, replicate}
 use Rattle.model.specs.Words.{zeros}
 use Rattle.model.specs.Calls.{StateResult, state_result}
-use Rattle.model.specs.Longer.{shorten_state, lengthen_state}
+use Rattle.model.specs.Longer.{check_long_state, shorten_state, lengthen_state}
 use Rattle.model.specs.declared.Refusal.TheVariants.{SiteLength, SiteField, SiteTwice, SiteMissing, StateLength, StateForm}
 use Rattle.cases.proofs.Change.{with_fields}
 use Rattle.cases.proofs.Bytes.{door, hall, card}
@@ -53,6 +53,8 @@ pub record Shortened : Type 0 where
       ≡ state_result (Err StateForm) (nines 160) ∷ state_result (Err StateForm) (nines 160) ∷ []
   -- Worked through.
   worked_through : shorten_state ruled_door ruled_long (nines 64) ≡ state_result (Ok tt) ruled_state
+  -- The check of the longer state alone: 1 to 4 before 5.
+  checked : map (λ s. check_long_state s (nines 33)) bad_sites ≡ Err SiteLength ∷ Err SiteField ∷ Err SiteTwice ∷ Err SiteMissing ∷ []
 
 pub record Lengthened : Type 0 where
   sites :
@@ -79,6 +81,9 @@ pub record Ends : Type 0 where
   all_kept :
       shorten_state (flatten (hall ∷ door ∷ [])) ruled_state (nines 64) ∷ lengthen_state (flatten (hall ∷ door ∷ [])) ruled_state (nines 64) ∷ []
       ≡ state_result (Ok tt) ruled_state ∷ state_result (Ok tt) ruled_state ∷ []
+  all_kept_lengths :
+      shorten_state (flatten (hall ∷ door ∷ [])) ruled_state (nines 63) ∷ lengthen_state (flatten (hall ∷ door ∷ [])) (nines 63) (nines 64) ∷ []
+      ≡ all_short (63 ∷ 64 ∷ [])
   none_kept :
       shorten_state everywhere (zeros 32) [] ∷ lengthen_state everywhere [] (nines 32) ∷ shorten_state everywhere (nines 32) [] ∷ []
       ≡ state_result (Ok tt) [] ∷ state_result (Ok tt) (zeros 32) ∷ state_result (Err StateForm) [] ∷ []
@@ -100,6 +105,7 @@ shortened_cases =
       forms = refl;
       installed_form = refl;
       worked_through = refl;
+      checked = refl;
     }
 
 pub lengthened_cases : Lengthened
@@ -109,4 +115,4 @@ lengthened_cases =
 
 pub ends_cases : Ends
 unfolding across_open
-ends_cases = record { all_kept = refl; none_kept = refl; empty = refl }
+ends_cases = record { all_kept = refl; all_kept_lengths = refl; none_kept = refl; empty = refl }
