@@ -13,13 +13,9 @@ use Rattle.model.specs.Site.{records}
 use Rattle.model.specs.State.{state_length, state_place, fresh}
 use Rattle.model.specs.Calls.{number, fresh_state, check_state}
 use Rattle.model.specs.Lists.{Run, run_on}
-use Rattle.model.specs.Longer.{long_panel, long_fresh_record, long_fresh, long_record_well, long_well_formed, check_long_state, long_run_on, long_results, shorter, long_record, longer, with_shorter, shorten_returned, shorten_state, lengthen_returned, lengthen_state}
+use Rattle.model.specs.Longer.{long_fresh, long_run_on, shorter, longer}
+use Rattle.model.proofs.Open.{longs}
 use Rattle.cases.proofs.Bytes.{door, hall, rule, person, card, counted, entry, bytes}
-
--- One name that opens the definitions of Longer, and the helpers of Bytes.
-unfoldable pub longs : Unit {0}
-unfolding bytes long_panel long_fresh_record long_fresh long_record_well long_well_formed check_long_state long_run_on long_results shorter long_record longer with_shorter shorten_returned shorten_state lengthen_returned lengthen_state
-longs = tt
 
 -- ── "for all site mixes": a zone, a point, a rule, a credential and a factor
 
@@ -152,7 +148,7 @@ pub record Mixes : Type 0 where
   all_none : all (λ ks. turned_back 5 ks []) (keep accepted mixes) ≡ true
 
 pub mixes_cases : Mixes
-unfolding longs fresh_door fresh_person kinds on_each mixes laid_out accepted works turned_back
+unfolding bytes longs fresh_door fresh_person kinds on_each mixes laid_out accepted works turned_back
 mixes_cases = record { numbers = refl; all_laid_out = refl; all_work = refl; all_missing = refl; all_long = refl; all_none = refl }
 
 -- ── six of them, the last two not accepted, in literal numbers: the length, the three places, and the fresh state records as numbers of 32 bytes
@@ -177,7 +173,7 @@ pub record Six : Type 0 where
   rule_factor_point : laid (rule ∷ card ∷ door ∷ []) ≡ 32 ∷ 0 ∷ 0 ∷ 0 ∷ 0x00000000_00_00_0000_00000000_00000000_003FFFFF_00000000_0000000000000000 ∷ []
 
 pub six_cases : Six
-unfolding longs laid
+unfolding bytes longs laid
 six_cases =
     record {
       rule_zone_point = refl;

@@ -12,9 +12,9 @@ use Rattle.model.specs.Lists.{Run, run_on, results}
 use Rattle.model.specs.Longer.{long_fresh, long_run_on, long_results, shorten_state, lengthen_state}
 use Rattle.cases.proofs.Change.{with_fields}
 use Rattle.cases.proofs.Fields.{instance, flags, mode, factors_wanted, zone_to_field, most, most_tries_field, days_given, first_rights, value}
-use Rattle.cases.proofs.Bytes.{door, hall, rule, person, card, pin, entry, answered}
+use Rattle.cases.proofs.Bytes.{door, hall, rule, person, card, pin, entry, answered, bytes}
 use Rattle.cases.proofs.WrongTries.{shows_at, types_at}
-use Rattle.cases.proofs.HalfState.{longs}
+use Rattle.model.proofs.Open.{longs}
 
 -- ── a small campus
 
@@ -102,7 +102,7 @@ afternoon_answers =
 
 -- One name that opens these.
 unfoldable pub standby_open : Unit {0}
-unfolding longs campus run cut morning afternoon short_of long_of midday evening morning_answers afternoon_answers shows_at types_at
+unfolding bytes longs campus run cut morning afternoon short_of long_of midday evening morning_answers afternoon_answers shows_at types_at
 standby_open = tt
 
 -- What a run gives: its number, its answers as numbers of 16 bytes, and the state.

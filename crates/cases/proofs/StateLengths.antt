@@ -14,11 +14,11 @@ use Rattle.model.specs.Longer.{check_long_state}
 use Rattle.model.specs.declared.Refusal.TheVariants.{StateLength}
 use Rattle.cases.proofs.Change.{Field, with_fields}
 use Rattle.cases.proofs.Fields.{instance}
-use Rattle.cases.proofs.Bytes.{door, hall, yard, rule, person, card, pin, door_state, person_state, counted, types, from_state, answered}
+use Rattle.cases.proofs.Bytes.{door, hall, yard, rule, person, card, pin, door_state, person_state, counted, types, from_state, answered, bytes}
 use Rattle.cases.proofs.Records.{tables}
 use Rattle.cases.proofs.SiteCheck.{records_at}
 use Rattle.cases.proofs.States.{every_kind, largest_state}
-use Rattle.cases.proofs.HalfState.{longs}
+use Rattle.model.proofs.Open.{longs}
 
 -- ── sites without zones, points and credentials: their state is empty
 
@@ -48,7 +48,7 @@ pub record Stateless : Type 0 where
   factor_alone : stateless (everywhere ∷ card ∷ []) [] ≡ 4 ∷ 4 ∷ 4 ∷ []
 
 pub stateless_cases : Stateless
-unfolding longs everywhere stateless
+unfolding bytes longs everywhere stateless
 stateless_cases = record { rules = refl; nothing = refl; rules_record = refl; nothing_record = refl; lengths = refl; any_bytes = refl; factor_alone = refl }
 
 -- ── the longer state, of zone 7, a rule and point 2, where a state of zone and point alone is wanted
@@ -78,7 +78,7 @@ pub record TheLonger : Type 0 where
   wanted : number (check_long_state ruled_door ruled_long) ∷ number (check_long_state ruled_door ruled_state) ∷ [] ≡ 0 ∷ 5 ∷ []
 
 pub the_longer : TheLonger
-unfolding longs ruled_door ruled_state ruled_long one_read
+unfolding bytes longs ruled_door ruled_state ruled_long one_read
 the_longer = record { check = refl; run = refl; shorter_one = refl; wanted = refl }
 
 -- "Rule, factor: zero", in the longer state of every kind: the rule's record is from byte 96, the factor's from byte 160.
@@ -99,7 +99,7 @@ pub record LongWell : Type 0 where
       map (λ t. number (check_long_state every_kind t)) (take 223 largest_long ∷ (largest_long ++ (0 ∷ [])) ∷ largest_state ∷ [] ∷ []) ≡ 5 ∷ 5 ∷ 5 ∷ 5 ∷ []
 
 pub long_well : LongWell
-unfolding longs tables records_at every_kind largest_state largest_long
+unfolding bytes longs tables records_at every_kind largest_state largest_long
 long_well = record { rule_and_factor = refl; the_others = refl; lengths = refl }
 
 -- ── a state of another site
@@ -136,5 +136,5 @@ pub record Lent : Type 0 where
       ≡ 0 ∷ 0x0001_01_00_00000004_00000000_00000000 ∷ []
 
 pub lent : Lent
-unfolding longs checked
+unfolding bytes longs checked
 lent = record { anywhere = refl; other_kinds = refl; other_sequence = refl; by_chance = refl }

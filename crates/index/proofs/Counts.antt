@@ -5,13 +5,14 @@ use mathlib.Core.Path.{◌≡◌, refl, sym, ap, ◌∙◌}
 use mathlib.Core.List.{List, [], ◌∷◌, ◌++◌}
 use mathlib.Core.Bool.{Bool, true, false}
 use native.Mathlib.Omega.{arith}
-use lib.ListN.{length, take, drop, get_or, length-drop}
+use lib.ListN.{length, take, drop, get_or, length-append, length-drop}
 use lib.Seq.{take-add, take-nil}
 use lib.Dec.{eqb}
 use Rattle.std.specs.List.{filter}
 use Rattle.std.proofs.lemmas.List.{drop_all, drop_more, take-append-drop}
 use Rattle.model.specs.Words.{keep, bit_of}
 use Rattle.model.specs.State.{kept, state_place}
+use Rattle.model.proofs.Laws.{keep_append, length_keep}
 use Rattle.index.specs.Index.{kept_from, bits_of, count_from, count_more}
 
 -- The library's `filter` keeps the same.
@@ -20,26 +21,12 @@ filter_kept [] = refl
 filter_kept (s ∷ ss) = rw (filter_kept ss) refl
 
 -- No more than there are, from whichever on.
-pub keep_few : (ss : List (List ℕ)) → length (keep kept ss) ≤ length ss
-keep_few [] = omega arith
-keep_few (s ∷ ss) = go (kept s) (keep_few ss)
-  where
-    go : (c : Bool) → length (keep kept ss) ≤ length ss → length (if c then s ∷ keep kept ss else keep kept ss) ≤ length (s ∷ ss)
-    go true l = omega arith
-    go false l = omega arith
-
 pub kept_few : (i : ℕ) (ss : List (List ℕ)) → kept_from i ss ≤ length ss
-kept_few i ss = omega (arith, keep_few (drop i ss), length-drop i ss)
+kept_few i ss = omega (arith, length_keep kept (drop i ss), length-drop i ss)
 
 -- Those of two lists, one after the other.
 kept_both : (ss ts : List (List ℕ)) → length (keep kept (ss ++ ts)) ≡ length (keep kept ss) + length (keep kept ts)
-kept_both [] ts = omega arith
-kept_both (s ∷ ss) ts = go (kept s) (kept_both ss ts)
-  where
-    go : (c : Bool) → length (keep kept (ss ++ ts)) ≡ length (keep kept ss) + length (keep kept ts)
-        → length (if c then s ∷ keep kept (ss ++ ts) else keep kept (ss ++ ts)) ≡ length (if c then s ∷ keep kept ss else keep kept ss) + length (keep kept ts)
-    go true e = omega (arith, e)
-    go false e = e
+kept_both ss ts = ap length (keep_append kept ss ts) ∙ length-append (keep kept ss) (keep kept ts)
 
 -- The i-th with those after it.
 pub kept_one : (i : ℕ) (ss : List (List ℕ)) → i < length ss → kept_from i ss ≡ kept_from (i + 1) ss + bit_of (kept (get_or ss i []))

@@ -247,7 +247,7 @@ fn count_more(next: u16, i: usize, has: bool) -> u16
     ensures { result ≡ Index.count_more next i has }
 {
     let at = i % COUNT_STEP;
-    let kept = if at == 3 {
+    let kept = if at == COUNT_STEP - 1 {
         next / COUNT_SCALE * COUNT_SCALE
     } else {
         next

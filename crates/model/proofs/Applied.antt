@@ -18,8 +18,8 @@ use Rattle.model.specs.Tally.{smaller, move, set_to, signed, passed, tallied, ta
 use Rattle.model.specs.Part.{part_records, part_answers, part_state}
 use Rattle.model.specs.DayPasses.{is_grant_of, grant_times, times_granted, dates_granted, days_in_site, state_left, last_of, taken_since, days_taken, never_fall, different}
 use Rattle.model.specs.WrongTries.{is_try_of, is_disable_of, tried_once, tried_by, tried_after, most_tries, tried_of, tries_in, tries_since}
-use Rattle.model.specs.Longer.{long_panel, long_fresh_record, long_fresh, long_record_well, long_well_formed, check_long_state, long_run_on, long_results, shorter, long_record, longer, with_shorter, shorten_returned, shorten_state, lengthen_returned, lengthen_state}
-use Rattle.model.proofs.Open.{definitions}
+use Rattle.model.specs.Longer.{long_fresh, check_long_state, long_results, shorter, longer, with_shorter}
+use Rattle.model.proofs.Open.{definitions, longs}
 use Rattle.model.proofs.Build.{every_rule, rule, zone, point, locking_point, credential, absent_credential, master_credential, tried_credential, card, code, read, damaged, set_count, adjust, lock, cut, run_of, events, run, history, examples}
 use Rattle.model.proofs.Parts.{part, nothing, isolation_tests, left_out_tests, parts}
 
@@ -252,30 +252,31 @@ unfoldable pub mixed_runs : List Run
 unfolding examples
 mixed_runs = map run ((read 2 100 55 ∷ read 2 160 55 ∷ []) ∷ cut ∷ (read 2 220 77 ∷ []) ∷ [])
 
-unfoldable pub longs : Unit {0}
-unfolding definitions examples mixed mixed_runs long_panel long_fresh_record long_fresh long_record_well long_well_formed check_long_state long_run_on long_results shorter long_record longer with_shorter shorten_returned shorten_state lengthen_returned lengthen_state
-longs = tt
+-- One name that opens these.
+unfoldable pub mixtures : Unit {0}
+unfolding longs examples mixed mixed_runs
+mixtures = tt
 
 -- Eight records, of which three have state: that of the credential stands third.
 pub mixed_lengths : length mixed ∷ state_length mixed ∷ state_place 6 (records mixed) ∷ [] ≡ 256 ∷ 96 ∷ 2 ∷ []
-unfolding longs
+unfolding mixtures
 mixed_lengths = refl
 
 pub mixed_checked : check_long_state mixed (long_fresh mixed) ≡ Ok tt
-unfolding longs
+unfolding mixtures
 mixed_checked = refl
 
 pub mixed_fresh : (shorter mixed (long_fresh mixed) ≡ fresh mixed) × (longer mixed (fresh mixed) ≡ long_fresh mixed)
-unfolding longs
+unfolding mixtures
 mixed_fresh = (refl, refl)
 
 -- The same numbers, answers and kept records, and what they are is not nothing.
 pub mixed_results : results mixed (fresh mixed) mixed_runs ≡ map (with_shorter mixed) (long_results mixed (long_fresh mixed) mixed_runs)
-unfolding longs
+unfolding mixtures
 mixed_results = refl
 
 pub mixed_events :
     map (λ (x : RunResult). number x.returned ∷ map event_in (answers_in x.answers)) (results mixed (fresh mixed) mixed_runs)
     ≡ (0 ∷ 1 ∷ 142 ∷ []) ∷ (10 ∷ []) ∷ (0 ∷ 129 ∷ []) ∷ []
-unfolding longs
+unfolding mixtures
 mixed_events = refl

@@ -3,8 +3,9 @@ use Rattle.std.specs.Prelude.{if◌then◌else◌, Option, Some, None}
 use Prim.Native.Nat.{ℕ, zero, suc, ◌+◌, ◌*◌, ◌≤◌}
 use native.Mathlib.Omega.{arith}
 use mathlib.Core.Path.{◌≡◌, refl, sym, ◌∙◌, ap}
-use mathlib.Core.List.{List, [], ◌∷◌, map, map-map, flatten}
+use mathlib.Core.List.{List, [], ◌∷◌, ◌++◌, map, map-map, flatten}
 use mathlib.Core.Bool.{Bool, true, false, ◌||◌}
+use Rattle.std.proofs.lemmas.List.{nil_from_length}
 use lib.Dec.{eqb}
 use lib.ListN.{length, take, drop, length-append, length-drop, take-append-drop}
 use lib.Seq.{take_at, drop_at, length-take-le}
@@ -246,6 +247,21 @@ length_fresh_record s = go (record_kind s)
     go (Some OfCredential) = length_credential (fresh_credential s)
     go (Some OfFactor) = refl
     go None = refl
+
+-- What has no state has no fresh record; and where a test leaves out such records alone, the others make the same bytes.
+pub nothing_fresh : (s : List ℕ) → kept s ≡ false → fresh_record s ≡ []
+nothing_fresh s h = nil_from_length (fresh_record s) (length_fresh_record s ∙ unfold state_size in rw h)
+
+pub fresh_keep : (w : List ℕ → Bool) → ((s : List ℕ) → w s ≡ false → kept s ≡ false) → (ss : List (List ℕ)) →
+    flatten (map fresh_record (keep w ss)) ≡ flatten (map fresh_record ss)
+unfolding flatten
+fresh_keep w out [] = refl
+fresh_keep w out (s ∷ ss) = go (w s) refl (fresh_keep w out ss)
+  where
+    go : (c : Bool) → w s ≡ c → flatten (map fresh_record (keep w ss)) ≡ flatten (map fresh_record ss) →
+        flatten (map fresh_record (if c then s ∷ keep w ss else keep w ss)) ≡ fresh_record s ++ flatten (map fresh_record ss)
+    go true e ih = ap (λ t. fresh_record s ++ t) ih
+    go false e ih = rw (nothing_fresh s (out s e)) ih
 
 whole_fresh : (ss : List (List ℕ)) → all (whole state_size) (fresh_panel ss) ≡ true
 whole_fresh [] = refl

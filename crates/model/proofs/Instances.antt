@@ -29,7 +29,7 @@ use Rattle.model.specs.Demands.{HalfState, ShorterWell, LongerWell, StateInPlace
 use Rattle.model.proofs.Open.{definitions}
 use Rattle.model.proofs.Build.{zone, point, credential, card, rule, read, run, examples}
 use Rattle.model.proofs.Parts.{part, nothing, parts}
-use Rattle.model.proofs.Applied.{hall, west, east, both_wings, west_alone, guest, passes, floor, codes, coded_wings, forgetful, mixed, mixed_runs, mixed_checked, longs}
+use Rattle.model.proofs.Applied.{hall, west, east, both_wings, west_alone, guest, passes, floor, codes, coded_wings, forgetful, mixed, mixed_runs, mixed_checked, mixtures}
 use Rattle.model.proofs.Counted.{count_is_tally}
 use Rattle.model.proofs.Isolation.{isolation}
 use Rattle.model.proofs.LeftOut.{others_left_out_law}
@@ -177,7 +177,7 @@ instance_in_place = (in_place 32 1 4 4 guarded (lit< tt) (lit≤ tt)).1
 
 -- From the longer fresh state of the mixed site, and from the shorter one of it.
 pub mixed_half : results mixed (shorter mixed (long_fresh mixed)) mixed_runs ≡ map (with_shorter mixed) (long_results mixed (long_fresh mixed) mixed_runs)
-unfolding longs HalfState
+unfolding mixtures HalfState
 mixed_half = half_state mixed (long_fresh mixed) mixed_runs refl refl
 
 -- The shorter one is accepted, and has its longer one back; and the other way round.
@@ -186,10 +186,10 @@ unfolding ShorterWell
 mixed_across = shorter_well_law mixed (long_fresh mixed) mixed_checked
 
 pub mixed_back : (check_long_state mixed (longer mixed (fresh mixed)) ≡ Ok tt) × (shorter mixed (longer mixed (fresh mixed)) ≡ fresh mixed)
-unfolding longs LongerWell
+unfolding mixtures LongerWell
 mixed_back = longer_well_law mixed (fresh mixed) refl
 
 -- The credential, seventh of the site, has the third record of the state.
 pub mixed_placed : (get_or (panel mixed (fresh mixed)) 6 ([], [])).1 ≡ part_of 32 2 (fresh mixed)
-unfolding longs StateInPlace
+unfolding mixtures StateInPlace
 mixed_placed = ap (λ (x : Pair). x.1) (state_in_place mixed (fresh mixed) 6 refl (lit< tt) refl)

@@ -2,11 +2,13 @@
 use Rattle.std.specs.Prelude.{if◌then◌else◌, Option, Some, None}
 use Rattle.std.specs.Option.{IfSome}
 use Rattle.std.proofs.lemmas.Bool.{and_parts, or_parts}
-use Prim.Native.Nat.{ℕ}
+use Prim.Native.Nat.{ℕ, ◌≤◌}
+use native.Mathlib.Omega.{arith}
 use mathlib.Core.Path.{◌≡◌, refl, sym, ◌∙◌}
-use mathlib.Core.List.{List, [], ◌∷◌}
+use mathlib.Core.List.{List, [], ◌∷◌, ◌++◌}
 use mathlib.Core.Bool.{Bool, true, false, ◌&&◌, ◌||◌, and-false}
 use lib.Dec.{eqb}
+use lib.ListN.{length}
 use borrow.Author.Tests.{eqb-true}
 use Rattle.model.specs.Words.{keep, any, all, missing}
 use Rattle.model.specs.Numbers.{NONE}
@@ -41,6 +43,27 @@ kind_at k i s h = eqb-true (kind s) k (and_left _ (eqb (instance s) i) h)
 
 pub instance_at : (k i : ℕ) (s : List ℕ) → is_at k i s ≡ true → instance s ≡ i
 instance_at k i s h = eqb-true (instance s) i (and_right (eqb (kind s) k) _ h)
+
+-- ── what a test keeps of a list
+
+module _ {A : Type 0} (q : A → Bool) where
+  -- Of two lists, one after the other.
+  pub keep_append : (xs ys : List A) → keep q (xs ++ ys) ≡ keep q xs ++ keep q ys
+  keep_append [] ys = refl
+  keep_append (x ∷ xs) ys = rw (keep_append xs ys) (go (q x))
+    where
+      go : (c : Bool) → (if c then x ∷ keep q xs ++ keep q ys else keep q xs ++ keep q ys) ≡ (if c then x ∷ keep q xs else keep q xs) ++ keep q ys
+      go true = refl
+      go false = refl
+
+  -- No more than there are.
+  pub length_keep : (xs : List A) → length (keep q xs) ≤ length xs
+  length_keep [] = omega arith
+  length_keep (x ∷ xs) = go (q x) (length_keep xs)
+    where
+      go : (c : Bool) → length (keep q xs) ≤ length xs → length (if c then x ∷ keep q xs else keep q xs) ≤ length (x ∷ xs)
+      go true ih = omega arith
+      go false ih = omega arith
 
 -- ── what a test on site records keeps of the panel
 

@@ -1,9 +1,9 @@
 -- A list with every entry outside a self-contained part left out: the part's entries get the same answers, its records the same state.
 use Rattle.std.specs.Prelude.{if◌then◌else◌, Option, Some, None}
-use Prim.Native.Nat.{ℕ, ◌*◌, ◌/◌, ◌≤◌}
+use Prim.Native.Nat.{ℕ, ◌*◌, ◌/◌}
 use native.Mathlib.Omega.{arith}
 use mathlib.Core.Path.{◌≡◌, refl, sym, ◌∙◌, ap, ap₂}
-use mathlib.Core.List.{List, [], ◌∷◌, ◌++◌, map}
+use mathlib.Core.List.{List, [], ◌∷◌, map}
 use mathlib.Core.Bool.{Bool, true, false, not, ◌||◌, or-true}
 use lib.Dec.{eqb}
 use lib.ListN.{length}
@@ -22,7 +22,7 @@ use Rattle.model.specs.Demands.{Isolation, OthersLeftOut}
 use Rattle.model.specs.declared.Entry.{Entry}
 use Rattle.model.specs.declared.Operation.{Operation}
 use Rattle.model.specs.declared.Operation.TheVariants.{Factor, SetCount, AdjustCount, SetDisable, SetService}
-use Rattle.model.proofs.Laws.{and_left, and_right, only, sites_apply}
+use Rattle.model.proofs.Laws.{and_left, and_right, keep_append, length_keep, only, sites_apply}
 use Rattle.model.proofs.Flat.{Sized, length_flatten, groups_flatten, groups_sized, fresh_panel}
 use Rattle.model.proofs.Runs.{worked_through, entries_by, worked_at, all_entries, worked_list}
 use Rattle.model.proofs.Entries.{run_accepted, accepted_run, length_entries}
@@ -34,24 +34,6 @@ use Rattle.model.proofs.KeptWell.{run_returns, run_entries, Taken, run_returned_
 -- ── what a test keeps of a list
 
 module _ {A : Type 0} (q : A → Bool) where
-  -- Of two lists, one after the other.
-  keep_append : (xs ys : List A) → keep q (xs ++ ys) ≡ keep q xs ++ keep q ys
-  keep_append [] ys = refl
-  keep_append (x ∷ xs) ys = rw (keep_append xs ys) (go (q x))
-    where
-      go : (c : Bool) → (if c then x ∷ keep q xs ++ keep q ys else keep q xs ++ keep q ys) ≡ (if c then x ∷ keep q xs else keep q xs) ++ keep q ys
-      go true = refl
-      go false = refl
-
-  -- No more than there are.
-  length_keep : (xs : List A) → length (keep q xs) ≤ length xs
-  length_keep [] = omega arith
-  length_keep (x ∷ xs) = go (q x) (length_keep xs)
-    where
-      go : (c : Bool) → length (keep q xs) ≤ length xs → length (if c then x ∷ keep q xs else keep q xs) ≤ length (x ∷ xs)
-      go true ih = omega arith
-      go false ih = omega arith
-
   -- What all pass, those that are kept pass.
   all_keep : (t : A → Bool) (xs : List A) → all t xs ≡ true → all t (keep q xs) ≡ true
   all_keep t [] a = refl

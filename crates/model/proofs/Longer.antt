@@ -10,6 +10,7 @@ use lib.Dec.{eqb}
 use lib.ListN.{length, take, drop}
 use lib.Seq.{take-length}
 use borrow.Author.Tests.{eq-eqb, eqb-true, not-false}
+use Rattle.std.proofs.lemmas.List.{nil_from_length}
 use Rattle.octets.specs.Octets.{same}
 use Rattle.octets.proofs.Laws.{same_eq}
 use Rattle.octets.proofs.GroupLaws.{length_groups}
@@ -422,13 +423,9 @@ erase_lengthened (x ∷ xs) a =
     ap₂ ◌∷◌ (go (kept x.0) (and_left (whole state_size x) (all (whole state_size) xs) a))
     (erase_lengthened xs (and_right (whole state_size x) (all (whole state_size) xs) a))
   where
-    empty : (t : List ℕ) → eqb (length t) 0 ≡ true → [] ≡ t
-    empty [] h = refl
-    empty (b ∷ t) h = absurd (omega (arith, eqb-true (length (b ∷ t)) 0 h))
-
     go : (c : Bool) → eqb (length x.1) (if c then 32 else 0) ≡ true → ◌≡◌ {A = Pair} (x.0, if c then (if c then x.1 else zeros 32) else []) x
     go true h = refl
-    go false h = ap (λ t. (x.0, t)) (empty x.1 h)
+    go false h = ap (λ t. (x.0, t)) (sym (nil_from_length x.1 (eqb-true (length x.1) 0 h)))
 
 zero_lengthened : (ps : Panel) → all zero_else (lengthened ps) ≡ true
 unfolding lengthened long_record zero_else clear same

@@ -1,7 +1,6 @@
 -- Sites that differ in their shifts alone: their rules say the same, so that every list of runs is answered alike.
 use Rattle.std.specs.Prelude.{if◌then◌else◌, Option, Some, None, Ok}
 use Prim.Native.Nat.{ℕ, ◌*◌}
-use native.Mathlib.Omega.{arith}
 use mathlib.Core.Path.{◌≡◌, refl, sym, ◌∙◌, ap}
 use mathlib.Core.List.{List, [], ◌∷◌, map, flatten}
 use mathlib.Core.Bool.{Bool, true, false, not, ◌&&◌, ◌||◌, or-true, or_self, and-or_distrib_left, false≢true}
@@ -33,7 +32,9 @@ use Rattle.model.specs.declared.RecordKind.{RecordKind}
 use Rattle.model.specs.declared.RecordKind.TheVariants.{OfZone, OfPoint, OfRule, OfCredential, OfFactor}
 use Rattle.model.proofs.Laws.{and_left, and_right, kind_at, only, only_apply, find_only, sites_only, find_keep, sites_apply}
 use Rattle.model.proofs.SameOutcome.{Agree, outcome_agree}
-use Rattle.model.proofs.Flat.{kept_number, whole, whole_left, sites_panel}
+use Rattle.std.proofs.lemmas.List.{nil_from_length}
+use Rattle.model.proofs.Flat.{kept_number, whole, whole_left, sites_panel, fresh_keep}
+use Rattle.model.proofs.Longer.{none_well}
 use Rattle.model.proofs.Runs.{site_accepted}
 use Rattle.model.proofs.Entries.{lengths, run_accepted}
 use Rattle.model.proofs.Shifts.{whole_rule, Like, until_like, since_like, fits_halves, shift_rule}
@@ -276,18 +277,9 @@ unfolding state_of flatten state_size
 state_only [] a = refl
 state_only (x ∷ xs) a = go (not_rule x.0) refl (state_only xs (and_right (whole state_size x) (all (whole state_size) xs) a))
   where
-    empty : (t : List ℕ) → eqb (length t) 0 ≡ true → t ≡ []
-    empty [] h = refl
-    empty (b ∷ t) h = absurd (omega (arith, eqb-true (length (b ∷ t)) 0 h))
-
     go : (c : Bool) → not_rule x.0 ≡ c → state_of (only not_rule xs) ≡ state_of xs → state_of (if c then x ∷ only not_rule xs else only not_rule xs) ≡ state_of (x ∷ xs)
     go true e ih = rw ih
-    go false e ih = rw (empty x.1 (rw (rule_none x.0 e) at (and_left (whole state_size x) (all (whole state_size) xs) a)), ih)
-
--- A rule is well formed with no record.
-rule_well : (ss : List (List ℕ)) (x : Pair) → not_rule x.0 ≡ false → record_well ss x ≡ true
-unfolding record_well
-rule_well ss x h = let k : kind x.0 ≡ 3 = eqb-true (kind x.0) 3 (not-false _ h) in rw k
+    go false e ih = rw (nil_from_length x.1 (eqb-true (length x.1) 0 (rw (rule_none x.0 e) at (and_left (whole state_size x) (all (whole state_size) xs) a))), ih)
 
 well_others : (ss : List (List ℕ)) (ps : Panel) → all (record_well ss) ps ≡ all (record_well ss) (only not_rule ps)
 well_others ss [] = refl
@@ -296,7 +288,7 @@ well_others ss (x ∷ xs) = go (not_rule x.0) refl (well_others ss xs)
     go : (c : Bool) → not_rule x.0 ≡ c → all (record_well ss) xs ≡ all (record_well ss) (only not_rule xs) →
         all (record_well ss) (x ∷ xs) ≡ all (record_well ss) (if c then x ∷ only not_rule xs else only not_rule xs)
     go true e ih = rw ih
-    go false e ih = rw (rule_well ss x e, ih)
+    go false e ih = rw (none_well ss x.0 x.1 (rule_none x.0 e), ih)
 
 module _ (ss ts : List (List ℕ)) (h : Halved ss ts) where
   -- What is of another kind than a rule is there in both.
@@ -392,17 +384,7 @@ same_shifts site other state (r ∷ rs) a b h =
     let e = run_same site other h state a b r in
     rw e (ap (λ xs. run_on other state r ∷ xs) (same_shifts site other (run_on other state r).state rs a b h))
 
--- The fresh record of a rule is empty.
-fresh_others : (ss : List (List ℕ)) → flatten (map fresh_record (keep not_rule ss)) ≡ flatten (map fresh_record ss)
-unfolding fresh_record flatten
-fresh_others [] = refl
-fresh_others (s ∷ ss) = go (not_rule s) refl (fresh_others ss)
-  where
-    go : (c : Bool) → not_rule s ≡ c → flatten (map fresh_record (keep not_rule ss)) ≡ flatten (map fresh_record ss) →
-        flatten (map fresh_record (if c then s ∷ keep not_rule ss else keep not_rule ss)) ≡ flatten (map fresh_record (s ∷ ss))
-    go true e ih = rw ih
-    go false e ih = let k : kind s ≡ 3 = eqb-true (kind s) 3 (not-false _ e) in rw k ih
-
 pub fresh_shifts : FreshShifts
 unfolding FreshShifts fresh
-fresh_shifts site other h = sym (fresh_others (records site)) ∙ ap (λ ss. flatten (map fresh_record ss)) h.others ∙ fresh_others (records other)
+fresh_shifts site other h =
+    sym (fresh_keep not_rule rule_none (records site)) ∙ ap (λ ss. flatten (map fresh_record ss)) h.others ∙ fresh_keep not_rule rule_none (records other)

@@ -6,8 +6,9 @@ use lib.ListN.{length}
 use Rattle.model.specs.Site.{records}
 use Rattle.model.specs.State.{state_length}
 use Rattle.index.proofs.Building.{length_records}
-use Rattle.index.proofs.Counts.{keep_few}
+use Rattle.model.specs.State.{kept}
+use Rattle.model.proofs.Laws.{length_keep}
 
 pub state_fits : (site : List ℕ) → state_length site ≤ length site
 unfolding state_length
-state_fits site = omega (arith, keep_few (records site), length_records site)
+state_fits site = omega (arith, length_keep kept (records site), length_records site)

@@ -40,7 +40,7 @@ pub fn place_of<O: Object>(site: &[u8], object: O) -> Option<Place>
 }
 
 // How long the state of a site is.
-#[tactic(auto, using(index::proofs::Counts::keep_few), unfolding(model::specs::State::state_length))]
+#[tactic(auto, using(model::proofs::Laws::length_keep), unfolding(model::specs::State::state_length))]
 pub fn state_length(site: &[u8]) -> usize
     ensures { result ≡ state_length site.now }
 {

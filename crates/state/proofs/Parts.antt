@@ -1,21 +1,22 @@
 -- Records of a state written one after the other, and where those of the longer state stand.
-use Rattle.std.proofs.lemmas.List.{nil_from_length, length-map}
+use Rattle.std.proofs.lemmas.List.{length-map}
 use Rattle.std.specs.Prelude.{if◌then◌else◌, Option, Some, None}
 use Prim.Native.Nat.{ℕ, zero, suc, ◌+◌, ◌*◌, ◌/◌, ◌<◌, ◌≤◌}
 use native.Mathlib.Omega.{arith}
 use mathlib.Core.Path.{◌≡◌, refl, sym, ap, ◌∙◌}
-use mathlib.Core.List.{List, [], ◌∷◌, ◌++◌, append-nil, map, flatten}
+use mathlib.Core.List.{List, [], ◌∷◌, append-nil, map, flatten}
 use mathlib.Core.Bool.{Bool, true, false}
 use lib.Seq.{take_all}
-use lib.ListN.{length, take, drop, get_or, get_or-map, drop_of_length-le}
+use lib.ListN.{length, drop, get_or, get_or-map, drop_of_length-le}
 use Rattle.octets.specs.Octets.{groups, with_part}
 use Rattle.octets.proofs.Written.{written, written_start, written_step, written_end}
 use Rattle.model.specs.Words.{keep, zeros}
 use Rattle.model.specs.Site.{records}
-use Rattle.model.specs.State.{Pair, kept, state_size, state_place, paired, panel, state_of, state_length, fresh_record, fresh}
+use Rattle.model.specs.State.{Pair, kept, state_place, paired, panel, sites, state_of, state_length, fresh_record, fresh}
 use Rattle.model.specs.InPlace.{part_of}
 use Rattle.model.specs.Longer.{long_panel, shorter, long_record}
-use Rattle.model.proofs.Flat.{sites_panel, length_fresh_record}
+use Rattle.model.proofs.Laws.{only, sites_only}
+use Rattle.model.proofs.Flat.{sites_paired, sites_panel, fresh_keep}
 use Rattle.model.proofs.StatePlaces.{passed, next_passed, passed_at, place_within, panel_at}
 use Rattle.index.proofs.Building.{length_records}
 
@@ -62,22 +63,9 @@ module _ {A : Type 0} (q : A → Bool) (f : A → List ℕ) (xs : List A) (room 
 
 -- ── the fresh state
 
-nothing_fresh : (s : List ℕ) → kept s ≡ false → fresh_record s ≡ []
-nothing_fresh s h = nil_from_length (fresh_record s) (length_fresh_record s ∙ unfold state_size in rw h)
-
-fresh_kept : (ss : List (List ℕ)) → flatten (map fresh_record (keep kept ss)) ≡ flatten (map fresh_record ss)
-unfolding flatten
-fresh_kept [] = refl
-fresh_kept (s ∷ ss) = go (kept s) refl (fresh_kept ss)
-  where
-    go : (c : Bool) → kept s ≡ c → flatten (map fresh_record (keep kept ss)) ≡ flatten (map fresh_record ss) →
-        flatten (map fresh_record (if c then s ∷ keep kept ss else keep kept ss)) ≡ fresh_record s ++ flatten (map fresh_record ss)
-    go true e h = ap (λ t. fresh_record s ++ t) h
-    go false e h = rw (nothing_fresh s e) h
-
 pub fresh_joined : (site : List ℕ) → flatten (map fresh_record (keep kept (records site))) ≡ fresh site
 unfolding fresh
-fresh_joined site = fresh_kept (records site)
+fresh_joined site = fresh_keep kept (λ s h. h) (records site)
 
 -- What is given of a record: its fresh record where it has one.
 pub given : (s : List ℕ) (o : Option (List ℕ)) → o ≡ (if kept s then Some (fresh_record s) else None) →
@@ -98,22 +86,6 @@ state_fits site state h = omega (arith, h)
 abbrev pub has_state : Pair → Bool
 has_state x = kept x.0
 
-length_long : (ss : List (List ℕ)) (long : List ℕ) → length (paired (λ s. 32) ss long) ≡ length ss
-unfolding paired
-length_long [] long = refl
-length_long (s ∷ ss) long = ap suc (length_long ss (drop 32 long))
-
-length_kept : (ss : List (List ℕ)) (long : List ℕ) → length (keep has_state (paired (λ s. 32) ss long)) ≡ length (keep kept ss)
-unfolding paired
-length_kept [] long = refl
-length_kept (s ∷ ss) long = go (kept s) (length_kept ss (drop 32 long))
-  where
-    go : (c : Bool) → length (keep has_state (paired (λ s. 32) ss (drop 32 long))) ≡ length (keep kept ss) →
-        length (if c then (s, take 32 long) ∷ keep has_state (paired (λ s. 32) ss (drop 32 long)) else keep has_state (paired (λ s. 32) ss (drop 32 long)))
-        ≡ length (if c then s ∷ keep kept ss else keep kept ss)
-    go true h = omega (arith, h)
-    go false h = h
-
 long_at : (ss : List (List ℕ)) (n i : ℕ) (long : List ℕ) → length ss ≡ n → i < n →
     get_or (paired (λ s. 32) ss long) i ([], []) ≡ (get_or ss i [], get_or (groups 32 n long) i [])
 unfolding paired groups
@@ -122,13 +94,18 @@ long_at (s ∷ ss) zero i long l h = absurd (omega (arith, h))
 long_at (s ∷ ss) (suc n) zero long l h = refl
 long_at (s ∷ ss) (suc n) (suc i) long l h = long_at ss n i (drop 32 long) (omega (arith, l)) (omega (arith, h))
 
-pub length_pairs : (site long : List ℕ) → length (long_panel site long) ≡ length (records site)
+sites_long : (site long : List ℕ) → sites (long_panel site long) ≡ records site
 unfolding long_panel
-length_pairs site long = length_long (records site) long
+sites_long site long = sites_paired (λ s. 32) (records site) long
+
+pub length_pairs : (site long : List ℕ) → length (long_panel site long) ≡ length (records site)
+length_pairs site long = sym (length-map (long_panel site long) (λ (x : Pair). x.0)) ∙ ap length (sites_long site long)
 
 pub pairs_fit : (site long state : List ℕ) → length state ≡ state_length site → length (keep has_state (long_panel site long)) * 32 ≡ length state
-unfolding long_panel
-pairs_fit site long state h = omega (arith, state_fits site state h, length_kept (records site) long)
+pairs_fit site long state h =
+    let k : length (keep has_state (long_panel site long)) ≡ length (keep kept (records site)) =
+    sym (length-map (only kept (long_panel site long)) (λ (x : Pair). x.0)) ∙ ap length (sites_only kept (long_panel site long) ∙ ap (keep kept) (sites_long site long)) in
+    omega (arith, state_fits site state h, k)
 
 -- The i-th pair.
 pub pair_at : (site long : List ℕ) (i : ℕ) → length long ≡ length site → i < length (records site) →

@@ -86,8 +86,8 @@ pub fn state_length(site: &[u8]) -> usize {
 /// Where both engines find the records of an object. Panics where they disagree.
 pub fn place_of(site: &[u8], kind: u8, instance: u32) -> Option<Place> {
     let place = state::place_of(site, kind, instance);
-    let expected = place.map_or(proved::NOWHERE, |found| [found.place, found.state_offset]);
-    let found = proved::place_of(site, kind, instance);
+    let expected = place.map(|found| (found.place, found.state_offset));
+    let found = proved::place_of(site, kind, instance).map(|found| (found.site, found.state));
     assert_eq!(found, expected, "{kind} {instance} in {site:02X?}");
     place
 }

@@ -14,9 +14,8 @@
 //! or more, WARBLEHAY_LIB_DIR and WARBLEHAY_BIN_DIR other places of the library and of the program.
 //! The gate sets none of them.
 
-#![deny(unsafe_code)]
+#![forbid(unsafe_code)]
 
-mod c_library;
 pub mod colliding;
 pub mod compare;
 mod faults;

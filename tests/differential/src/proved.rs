@@ -1,9 +1,9 @@
 //! The proved engine's calls, with the signatures of the reference.
 
-use crate::c_library;
 use reference::engine::Engine;
 use reference::numbers::kind;
 use reference::wiegand::Factor;
+use warblehay::Place;
 
 /// The proved engine.
 pub const PROVED: Engine = Engine {
@@ -13,9 +13,6 @@ pub const PROVED: Engine = Engine {
     shorten_state,
     lengthen_state,
 };
-
-/// What both results of a lookup are where the site has no such object.
-pub const NOWHERE: [usize; 2] = [warblehay::numbers::NOWHERE; 2];
 
 pub fn check_site(site: &[u8]) -> u8 {
     number(linked::check_site(site))
@@ -34,23 +31,23 @@ pub fn run_journal(site: &[u8], state: &mut [u8], journal: &[u8], answers: &mut 
 }
 
 pub fn shorten_state(site: &[u8], longer: &[u8], state: &mut [u8]) -> u8 {
-    number(c_library::shorten_state(site, longer, state))
+    number(linked::shorten_state(site, longer, state))
 }
 
 pub fn lengthen_state(site: &[u8], state: &[u8], longer: &mut [u8]) -> u8 {
-    number(c_library::lengthen_state(site, state, longer))
+    number(linked::lengthen_state(site, state, longer))
 }
 
 pub fn state_length(site: &[u8]) -> usize {
-    c_library::state_length(site)
+    linked::state_length(site)
 }
 
 /// The place in the site and the offset in the state of a zone, a point or a credential.
-pub fn place_of(site: &[u8], kind: u8, instance: u32) -> [usize; 2] {
+pub fn place_of(site: &[u8], kind: u8, instance: u32) -> Option<Place> {
     match kind {
-        kind::ZONE => c_library::place_of_zone(site, instance),
-        kind::POINT => c_library::place_of_point(site, instance),
-        kind::CREDENTIAL => c_library::place_of_credential(site, instance),
+        kind::ZONE => warblehay::place_of_zone(site, instance),
+        kind::POINT => warblehay::place_of_point(site, instance),
+        kind::CREDENTIAL => warblehay::place_of_credential(site, instance),
         _ => panic!("no lookup of kind {kind}"),
     }
 }

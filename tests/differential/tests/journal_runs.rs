@@ -78,15 +78,7 @@ fn lists_of_journals_from_fresh() {
         }
     }
     settings::print("Journal run, lists of journals from fresh", &occurrences);
-    let of_lists = [
-        refusal::ENTRY_FIELD,
-        refusal::ENTRY_MISSING,
-        refusal::ENTRY_COUNT,
-        refusal::JOURNAL_LENGTH,
-        refusal::ANSWERS_LENGTH,
-    ];
-    occurrences.assert_refusals(fewest(cases), &of_lists);
-    occurrences.assert_events_and_marks(fewest(cases));
+    occurrences.assert_lists(fewest(cases));
 }
 
 /// A case of a sound site and journal, with bytes in state and answers that a call must overwrite.

@@ -227,15 +227,7 @@ fn lists_of_journals_from_longer_states() {
         }
     }
     settings::print("Journal run, lists from longer states", &occurrences);
-    let of_lists = [
-        refusal::ENTRY_FIELD,
-        refusal::ENTRY_MISSING,
-        refusal::ENTRY_COUNT,
-        refusal::JOURNAL_LENGTH,
-        refusal::ANSWERS_LENGTH,
-    ];
-    occurrences.assert_refusals(cases / 1_000, &of_lists);
-    occurrences.assert_events_and_marks(cases / 1_000);
+    occurrences.assert_lists(cases / 1_000);
 }
 
 /// The longest journals from longer states, on sites of up to 2,000 records.

@@ -120,6 +120,20 @@ impl Occurrences {
         assert_often("refusal", &self.refusals, refusals, fewest);
     }
 
+    /// As `assert_refusals`, of journals on an accepted site and a state that a run takes, with the
+    /// events and marks of the paper.
+    pub fn assert_lists(&self, fewest: usize) {
+        let of_lists = [
+            refusal::ENTRY_FIELD,
+            refusal::ENTRY_MISSING,
+            refusal::ENTRY_COUNT,
+            refusal::JOURNAL_LENGTH,
+            refusal::ANSWERS_LENGTH,
+        ];
+        self.assert_refusals(fewest, &of_lists);
+        self.assert_events_and_marks(fewest);
+    }
+
     /// As `assert_refusals`, for the events and marks of the paper.
     pub fn assert_events_and_marks(&self, fewest: usize) {
         assert_often("event", &self.events, &EVENTS, fewest);

@@ -87,15 +87,7 @@ fn lists_of_journals_give_the_same_answers_and_records_in_both_forms() {
         run_list(&mut random, base, &site, states, &mut occurrences);
     }
     println!("{occurrences}");
-    let of_lists = [
-        refusal::ENTRY_FIELD,
-        refusal::ENTRY_MISSING,
-        refusal::ENTRY_COUNT,
-        refusal::JOURNAL_LENGTH,
-        refusal::ANSWERS_LENGTH,
-    ];
-    occurrences.assert_refusals(FEWEST, &of_lists);
-    occurrences.assert_events_and_marks(FEWEST);
+    occurrences.assert_lists(FEWEST);
 }
 
 #[test]
