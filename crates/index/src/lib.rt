@@ -1,9 +1,9 @@
 // The records of a site by number, and an index of them that a call keeps on its stack. A record falls into a bucket by what it is looked up by. The
 // index has a link for each record, the next record of its bucket in file order, then a head for each bucket, its first record, then the first and the
-// last record of each kind, and last, for each fourth record, how many records from there on have state. The number of records ends a chain: it bounds the
-// slices too, and fits the word, as an Option would not. Above the record's number a link or a head has the tags of the rules from there on in its chain,
-// a bit each, so that a walk for rules ends where none of their tag is left. Nothing else knows where these stand. `as` widens a u32, which has no From to
-// usize, and narrows what is known to fit, where try_from would test it again.
+// last record of each kind, and last, for each fourth record, how many records from there on have state, and which of the four do. The number of records
+// ends a chain: it bounds the slices too, and fits the word, as an Option would not. Above the record's number a link or a head has the tags of the rules
+// from there on in its chain, a bit each, so that a walk for rules ends where none of their tag is left. Nothing else knows where these stand. `as` widens a
+// u32, which has no From to usize, and narrows what is known to fit, where try_from would test it again.
 #![tactic(auto)]
 
 ghost use Rattle.std.specs.Prelude.{◌≡◌, [], ◌+◌, ◌*◌, ◌%◌, ◌≤◌, ◌<◌, eqb, length, get_or, if◌then◌else◌};
