@@ -77,9 +77,9 @@ authorization_denies k =
 
 -- ── what is left of steps that come to event 1
 
-none_given : (o : Option ℕ) → Denies o → unwrap_or o n.granted ≡ n.granted → o ≡ None
-none_given None d h = refl
-none_given (Some x) d h = absurd (eqb-false x n.granted d h)
+none_given : (o : Option ℕ) (next : ℕ) → Denies o → unwrap_or o next ≡ n.granted → o ≡ None
+none_given None next d h = refl
+none_given (Some x) next d h = absurd (eqb-false x n.granted d h)
 
 rest_none : (a b : Option ℕ) → option_or a b ≡ None → b ≡ None
 rest_none None b h = h
@@ -104,16 +104,16 @@ module _ (v : Situation) (rules : Verdict) (e : Entry) where
       go true g = g
       go false g = rest_none _ (passage v) g
 
-  -- Where no step gave an event, step 11 has room.
-  room : (o : Option ℕ) → Denies o → (o ≡ None → passage v ≡ None) → Room v (unwrap_or o n.granted)
+  -- Where no step gave an event, step 11 has room, whatever event follows.
+  room : (o : Option ℕ) (next : ℕ) → Denies o → (o ≡ None → passage v ≡ None) → Room v (unwrap_or o next)
   unfolding counts passage
-  room o s through h q =
-      let x = unwrap_or o n.granted in
+  room o next s through h q =
+      let x = unwrap_or o next in
       let a = and_left (eqb x n.granted && v.point.count_adjust) v.zone_to.counting h in
       let b = and_right (eqb x n.granted && v.point.count_adjust) v.zone_to.counting h in
       let d = and_right (eqb x n.granted) v.point.count_adjust a in
       let g = eqb-true x n.granted (and_left (eqb x n.granted) v.point.count_adjust a) in
-      let w : Some n.denied_other ≡ None = rw (d, b, eq-eqb v.count_to n.largest_count q) at (through (none_given o s g)) in
+      let w : Some n.denied_other ≡ None = rw (d, b, eq-eqb v.count_to n.largest_count q) at (through (none_given o next s g)) in
       cc
 
   entitlement_denies : Denies (entitlement v rules e)
@@ -124,11 +124,11 @@ module _ (v : Situation) (rules : Verdict) (e : Entry) where
   unfolding entitlement
   through_entitlement h = through_passage (rest_none _ (permission v rules e) h)
 
-  pub entitlement_room : Room v (unwrap_or (entitlement v rules e) n.granted)
-  entitlement_room = room (entitlement v rules e) entitlement_denies through_entitlement
+  pub entitlement_room : (next : ℕ) → Room v (unwrap_or (entitlement v rules e) next)
+  entitlement_room next = room (entitlement v rules e) next entitlement_denies through_entitlement
 
   pub event_room : Room v (event_of v rules e)
   unfolding event_of authentication_of
   event_room =
-      room _ (or_denies _ (entitlement v rules e) (authentication_denies (authentication_of v e) (disabled_denies v.factor_disable)) entitlement_denies)
+      room _ n.granted (or_denies _ (entitlement v rules e) (authentication_denies (authentication_of v e) (disabled_denies v.factor_disable)) entitlement_denies)
       (λ h. through_entitlement (rest_none _ (entitlement v rules e) h))

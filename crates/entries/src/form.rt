@@ -30,11 +30,10 @@ fn no_amount(e: Entry) -> bool
     e.amount == 0
 }
 
-#[tactic(auto, unfolding(model::specs::Entry::no_value), using(octets::proofs::Laws::pointwise_same))]
 fn no_value(e: Entry) -> bool
     ensures { result ≡ no_value e }
 {
-    e.value == [0; 8]
+    octets::same_bytes(&e.value, &[0; 8])
 }
 
 // The argument, the amount and the value are those of the operation.

@@ -1,7 +1,7 @@
 -- The place of the first record that passes a test: along the chain of its bucket, and among the records of its kind.
 use Rattle.std.specs.Prelude.{if◌then◌else◌, Option, Some, None, position}
 use Rattle.std.specs.List.{position_from}
-use Rattle.std.specs.Option.{option_map}
+use Rattle.std.specs.Option.{option_map, option_map_or}
 use Rattle.std.proofs.lemmas.Iterator.Adapters.{position_from-zero}
 use Prim.Native.Nat.{ℕ, suc, ◌+◌, ◌-◌, ◌%◌, ◌≤◌, ◌<◌, max, min}
 use mathlib.Core.Path.{◌≡◌, refl, sym, ap, ◌∙◌}
@@ -10,13 +10,13 @@ use mathlib.Core.Bool.{Bool, true, false}
 use native.Mathlib.Nat.{add-suc}
 use native.Mathlib.Numerals.{add-one}
 use native.Mathlib.Omega.{arith}
-use lib.Dec.{ltb}
+use lib.Dec.{eqb, ltb}
 use lib.ListN.{length, take, drop, get_or, length-drop}
 use lib.Seq.{drop-drop, length-take-le}
-use Rattle.std.proofs.lemmas.List.{drop_all, drop_more, take-append-drop}
+use Rattle.std.proofs.lemmas.List.{drop_all, drop_more, take_all, take-append-drop}
 use borrow.Author.Tests.{ltb-true, ltb-false}
 use Rattle.model.specs.Site.{kind}
-use Rattle.index.specs.Index.{kind_classes, bucket_of, record_of, ChainFrom, kind_class, next_in, OfBucket}
+use Rattle.index.specs.Index.{kind_classes, bucket_of, record_of, ChainFrom, kind_class, first_from, next_in, OfBucket}
 use Rattle.index.specs.Place.{place_from}
 use Rattle.index.proofs.Walks.{next_high, next_end, next_again, past, onward, onward_chain, chain_record, chain_at}
 
@@ -36,7 +36,7 @@ class_ends c last end ss e f h l = go (ltb end (length ss)) refl
         rw z (next_end kind_class c (length ss) ss (omega arith))
 
 module _ (q : List ℕ → Bool) where
-  place_passes : (k : ℕ) (s : List ℕ) (ss : List (List ℕ)) → q s ≡ false → place_from q k (s ∷ ss) ≡ place_from q (suc k) ss
+  pub place_passes : (k : ℕ) (s : List ℕ) (ss : List (List ℕ)) → q s ≡ false → place_from q k (s ∷ ss) ≡ place_from q (suc k) ss
   unfolding place_from
   place_passes k s ss h = rw h
 
@@ -130,3 +130,28 @@ module _ (q : List ℕ → Bool) where
           let z : first + 0 ≡ first = omega arith in
           sym (first_on from first (omega arith) (λ m. omega arith) ∙ place_cut first end ss (omega arith) (omega arith) none
           ∙ rw z at (place_more first 0 (take (end - first) (drop first ss))) ∙ ap (option_map (λ i. first + i)) (sym o))
+
+-- The first of a class is the first record that passes the test for it.
+module _ (class : List ℕ → ℕ) (c : ℕ) where
+  first_place : (k j : ℕ) (ss : List (List ℕ))
+      → first_from class c (k + j) ss ≡ option_map_or (λ i. k + i) (place_from (λ s. eqb (class s) c) j ss) (k + j + length ss)
+  unfolding first_from place_from
+  first_place k j [] = omega arith
+  first_place k j (s ∷ ss) = go (eqb (class s) c) (first_place k (suc j) ss)
+    where
+      go : (t : Bool) → first_from class c (k + suc j) ss ≡ option_map_or (λ i. k + i) (place_from (λ s. eqb (class s) c) (suc j) ss) (k + suc j + length ss)
+          → if t then k + j else first_from class c (suc (k + j)) ss
+          ≡ option_map_or (λ i. k + i) (if t then Some j else place_from (λ s. eqb (class s) c) (suc j) ss) (k + j + suc (length ss))
+      go true h = refl
+      go false h = let z : k + j + suc (length ss) ≡ k + suc j + length ss = omega arith in rw (← add-suc k j, z) h
+
+  -- From the k-th record on it is what `position` gives, k more, or the number of records. The library cuts the slice by its length.
+  pub next_position : (k : ℕ) (ss : List (List ℕ)) (found : Option ℕ) → k ≤ length ss
+      → found ≡ position (λ s. eqb (class s) c) (take (length ss - k) (drop k ss)) → next_in class c k ss ≡ option_map_or (λ i. k + i) found (length ss)
+  unfolding next_in
+  next_position k ss found h e =
+      let z : k + 0 ≡ k = omega arith in
+      let n : k + length (drop k ss) ≡ length ss = omega (arith, length-drop k ss) in
+      let o : take (length ss - k) (drop k ss) ≡ drop k ss = take_all (length ss - k) (drop k ss) (omega (arith, n)) in
+      let p : found ≡ place_from (λ s. eqb (class s) c) 0 (drop k ss) = rw o at e ∙ place_position (λ s. eqb (class s) c) (drop k ss) in
+      rw p (rw (z, n) at (first_place k 0 (drop k ss)))

@@ -1,6 +1,6 @@
 -- The records of a class, such as a bucket or a kind, from a number on; the chains of an index; walks over what is left from the i-th record on.
 use Rattle.std.specs.Prelude.{if◌then◌else◌}
-use Prim.Native.Nat.{ℕ, zero, suc, ◌+◌, ◌-◌, ◌/◌, ◌≤◌, ◌<◌}
+use Prim.Native.Nat.{ℕ, zero, suc, ◌+◌, ◌-◌, ◌/◌, ◌%◌, ◌≤◌, ◌<◌, max}
 use mathlib.Core.Path.{◌≡◌, refl, sym, ◌∙◌}
 use mathlib.Core.List.{List, [], ◌∷◌}
 use mathlib.Core.Bool.{Bool, true, false, false≢true}
@@ -11,9 +11,9 @@ use lib.Dec.{eqb, ltb}
 use lib.ListN.{length, drop, get_or, length-drop}
 use lib.Seq.{drop-cons, drop-drop, get_or-drop}
 use Rattle.std.proofs.lemmas.List.{drop_all}
-use borrow.Author.Tests.{eqb-true, eqb-false, ltb-true, ltb-false}
+use borrow.Author.Tests.{eqb-true, eqb-false, ne_eqb, ltb-true, ltb-false}
 use Rattle.model.specs.Site.{kind}
-use Rattle.index.specs.Index.{buckets, bucket_of, tags_of, chain_scale, record_of, first_from, next_in, head, link, after, ChainFrom, IndexedFrom}
+use Rattle.index.specs.Index.{buckets, kind_classes, bucket_of, tags_of, chain_scale, record_of, kind_class, first_from, next_in, head, kind_head, kind_last, link, after, ChainFrom, IndexedFrom}
 
 -- Records by a class, such as their bucket or their kind.
 module _ (class : List ℕ → ℕ) where
@@ -122,6 +122,7 @@ module _ {b m : ℕ} {ss : List (List ℕ)} {chain : ℕ} (x : ChainFrom b m ss 
 -- A walk over the records from the k-th on that has come to i: along the chain of a bucket, or, where that is left, over the records of a kind.
 pub record Walk {A : Type 0} (f : ℕ → List (List ℕ) → A) (b k : ℕ) (w : A) (ss : List (List ℕ)) (along : Bool) (i : ℕ) : Type 0 where
   pub low : k ≤ i
+  pub high : i ≤ length ss
   pub here : along ≡ true → i < length ss → bucket_of (get_or ss i []) ≡ b
   pub left : f i (drop i ss) ≡ w
 
@@ -157,7 +158,8 @@ module _ {A : Type 0} (f : ℕ → List (List ℕ) → A) (q : List ℕ → Bool
           → Walk f b k w ss along j
       chained {m = m} along j c l h p e =
           let n : k ≤ record_of _ = omega (arith, next_low bucket_of b m ss, chain_record c h) in
-          rw e (record { low = n; here = λ t. (chain_at c h).here; left = onward_chain c h p })
+          let o : record_of _ ≤ length ss = omega (arith, next_high bucket_of b m ss h, chain_record c h) in
+          rw e (record { low = n; high = o; here = λ t. (chain_at c h).here; left = onward_chain c h p })
 
       -- The first record of the bucket, with what decides from the k-th on.
       pub walk_from : (along : Bool) (i : ℕ) → b < buckets → i ≡ record_of (head b index) → Walk f b k (f k (drop k ss)) ss along i
@@ -171,4 +173,53 @@ module _ {A : Type 0} (f : ℕ → List (List ℕ) → A) (q : List ℕ → Bool
           chained next j c (omega (arith, y.low)) (omega arith) (past i h n y.left) e
       walk_past kd kinds false next i j o h y n e =
           let l : k ≤ next_in kind kd (i + 1) ss = omega (arith, y.low, next_low kind kd (i + 1) ss) in
-          rw e (record { low = l; here = λ t. absurd (false≢true (o t)); left = onward kind kd kinds (i + 1) (past i h n y.left) })
+          let m : next_in kind kd (i + 1) ss ≤ length ss = next_high kind kd (i + 1) ss (omega arith) in
+          rw e (record { low = l; high = m; here = λ t. absurd (false≢true (o t)); left = onward kind kd kinds (i + 1) (past i h n y.left) })
+
+-- The next of a kind is the next from the next of its class on.
+by_class : (kd i : ℕ) (ss : List (List ℕ)) → next_in kind kd i ss ≡ next_in kind kd (next_in kind_class (kd % kind_classes) i ss) ss
+unfolding next_in first_from
+by_class kd i ss = skip kind_class (first_from kind kd) (kd % kind_classes) other i ss
+  where
+    other : (j : ℕ) (s : List ℕ) (ts : List (List ℕ)) → eqb (kind_class s) (kd % kind_classes) ≡ false → first_from kind kd j (s ∷ ts) ≡ first_from kind kd (suc j) ts
+    other j s ts e = rw (ne_eqb (kind s) kd (λ q. eqb-false (kind_class s) (kd % kind_classes) e (rw q refl)))
+
+-- The next of a kind after the i-th is not before the first of its class.
+kind_after : (kd k i : ℕ) (ss : List (List ℕ)) → k ≤ i → i < next_in kind_class (kd % kind_classes) k ss
+    → next_in kind kd (i + 1) ss ≡ next_in kind kd (next_in kind_class (kd % kind_classes) k ss) ss
+kind_after kd k i ss l h =
+    let z : k + (i + 1 - k) ≡ i + 1 = omega arith in
+    let a : next_in kind_class (kd % kind_classes) (i + 1) ss ≡ next_in kind_class (kd % kind_classes) k ss = rw z at (next_again kind_class (kd % kind_classes) k ss (i + 1 - k) (omega arith)) in
+    rw a at (by_class kd (i + 1) ss)
+
+pub kind_later : (kd k i first : ℕ) (ss : List (List ℕ)) → k ≤ i → first ≡ next_in kind_class (kd % kind_classes) k ss
+    → next_in kind kd (max first (i + 1)) ss ≡ next_in kind kd (i + 1) ss
+kind_later kd k i first ss l e = go (ltb first (i + 1)) refl
+  where
+    go : (t : Bool) → ltb first (i + 1) ≡ t → next_in kind kd (max first (i + 1)) ss ≡ next_in kind kd (i + 1) ss
+    go true q = let z : max first (i + 1) ≡ i + 1 = omega (arith, ltb-true first (i + 1) q) in rw z
+    go false q =
+        let z : max first (i + 1) ≡ first = omega (arith, ltb-false first (i + 1) q) in
+        rw (z, e) (sym (kind_after kd k i ss l (omega (arith, ltb-false first (i + 1) q))))
+
+-- After the last of its class there is none of a kind, nor where the class is empty.
+kind_end : (kd last i : ℕ) (ss : List (List ℕ)) → last ≤ i → i < length ss → next_in kind_class (kd % kind_classes) (last + 1) ss ≡ length ss
+    → next_in kind kd (i + 1) ss ≡ length ss
+kind_end kd last i ss l h e =
+    let z : last + 1 + (i - last) ≡ i + 1 = omega arith in
+    let a : next_in kind_class (kd % kind_classes) (i + 1) ss ≡ length ss = rw z at (next_again kind_class (kd % kind_classes) (last + 1) ss (i - last) (omega arith)) ∙ e in
+    rw a at (by_class kd (i + 1) ss) ∙ next_end kind kd (length ss) ss (omega arith)
+
+pub kind_past : (k : ℕ) (ss : List (List ℕ)) (index : List ℕ) → IndexedFrom k ss index → (kd i : ℕ) → k ≤ i → i < length ss → kind_last (kd % kind_classes) index ≤ i
+    → next_in kind kd (i + 1) ss ≡ length ss
+kind_past k ss index x kd i l h p = go (ltb (kind_head c index) (length ss)) refl
+  where
+    c : ℕ
+    c = kd % kind_classes
+
+    go : (t : Bool) → ltb (kind_head c index) (length ss) ≡ t → next_in kind kd (i + 1) ss ≡ length ss
+    go true q = kind_end kd (kind_last c index) i ss p h (x.lasts c (omega arith) (ltb-true (kind_head c index) (length ss) q))
+    go false q =
+        let e : next_in kind_class c k ss ≡ length ss =
+        omega (arith, ltb-false (kind_head c index) (length ss) q, x.kinds c (omega arith), next_high kind_class c k ss x.within) in
+        kind_after kd k i ss l (omega arith) ∙ rw e (next_end kind kd (length ss) ss (omega arith))

@@ -172,7 +172,7 @@ impl<'s, 'w> IndexedSite<'s, 'w> {
         Some(first + at)
     }
 
-    // The same along the chain of its bucket, as long as that is short.
+    // The same along the chain of its bucket, as long as that is short. Start and steps are read of the words, as a walk has them (`walk_from`, `walk_past`).
     fn first_from<S: Sought>(&self, sought: S, from: usize) -> Option<usize>
         requires { OfBucket (S.bucket sought) from (records self.now) }
         ensures { result ≡ place_from (S.fits sought) from (drop from (records self.now)) }
@@ -186,7 +186,7 @@ impl<'s, 'w> IndexedSite<'s, 'w> {
             if sought.fits(&records[at]) {
                 return Some(at);
             }
-            at = self.link(at).record();
+            at = super::link_of(self.words, at).record();
         }
         self.scan(sought, at)
     }
@@ -195,7 +195,8 @@ impl<'s, 'w> IndexedSite<'s, 'w> {
     pub fn first<S: Keyed>(&self, sought: S) -> Option<usize>
         ensures { result ≡ place_from (S.fits sought) 0 (records self.now) }
     {
-        self.first_from(sought, self.head(sought.bucket()).record())
+        let head = super::head_of(self.words, sought.bucket());
+        self.first_from(sought, head.record())
     }
 
     // The first of them after the i-th record, which is of their bucket.

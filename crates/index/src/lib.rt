@@ -6,7 +6,7 @@
 // u32, which has no From to usize, and narrows what is known to fit, where try_from would test it again.
 #![tactic(auto)]
 
-ghost use Rattle.std.specs.Prelude.{◌≡◌, [], ◌+◌, ◌*◌, ◌%◌, ◌≤◌, ◌<◌, eqb, length, get_or, if◌then◌else◌};
+ghost use Rattle.std.specs.Prelude.{◌≡◌, [], ℕ, ◌+◌, ◌*◌, ◌%◌, ◌≤◌, ◌<◌, eqb, length, get_or, if◌then◌else◌};
 ghost use Rattle.octets.specs.Octets.{field};
 ghost use Rattle.model.specs.Words.{keep};
 ghost use Rattle.model.specs.Numbers.{access_rule};
@@ -14,7 +14,7 @@ ghost use Rattle.model.specs.Site as Site;
 ghost use Rattle.model.specs.Site.{records};
 ghost use Rattle.model.specs.State.{kept};
 ghost use Rattle.index.specs.Index as Index;
-ghost use Rattle.index.specs.Index.{most_records, kind_classes, object_bucket, rule_class, factor_bucket, IndexedFrom};
+ghost use Rattle.index.specs.Index.{most_records, kind_classes, object_bucket, rule_class, factor_bucket, next_in, IndexedFrom};
 ghost use Rattle.index.specs.Slots.{Slotted};
 
 mod bucket; // bucket.rt: buckets, and the classes of rules
@@ -293,4 +293,34 @@ pub fn insert(records: &[Record], words: &mut Words, i: usize)
         return;
     }
     put(records, words, i, slot_of_other(part));
+}
+
+// The first record of a kind from a number on, or the number of records, where there is none.
+fn next_of_kind(records: &[Record], kind: u8, from: usize) -> usize
+    ensures { result ≡ next_in Site.kind kind from records.now }
+{
+    let Some(later) = records.get(from..) else {
+        return from;
+    };
+    match later.iter().position(|part| kind_of(part) == kind) {
+        Some(at) => from + at,
+        None => records.len(),
+    }
+}
+
+// The record that a walk for a kind tries after the i-th, by the words alone, so that it serves an index half built too: the next of its bucket, or the
+// next of the kind, which is sought from the first of its class on, and not at all behind the last.
+pub fn after(site: &[u8], words: &Words, kind: u8, i: usize, along: bool) -> usize
+    requires { (i < most_records) × (i < length (records site.now)) }
+    ensures { (k : ℕ) → k ≤ i → IndexedFrom k (records site.now) words.now → result ≡ Index.after along kind i (records site.now) words.now }
+{
+    if along {
+        return link_of(words, i).record();
+    }
+    let records = records(site);
+    let head = MOST_RECORDS + BUCKETS + kind_class(kind);
+    if usize::from(words[head + KIND_CLASSES]) <= i {
+        return records.len();
+    }
+    next_of_kind(records, kind, usize::from(words[head]).max(i + 1))
 }

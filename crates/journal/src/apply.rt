@@ -1,4 +1,4 @@
-// The state records that an outcome writes, each in its place.
+// The state records that an outcome writes: each is lent, as its 32-byte part of the state, to its writer.
 ghost use Rattle.std.specs.Prelude.{◌≡◌};
 ghost use Rattle.journal.specs.Places.{write_place, written, applied};
 
@@ -20,7 +20,7 @@ fn write_place(instance: u32, place: Option<Place>, n: usize) -> Option<usize>
     place.map(|p| p.state).filter(|i| *i < n)
 }
 
-#[tactic(auto, using(crate::proofs::At::place_below_law))]
+#[tactic(auto, using(crate::proofs::At::place_below_law), unfolding(octets::specs::Octets::with_part))]
 fn write<I: Object, S: ToRecord>(state: &mut [u8], made: Option<Write<I, S>>, place: Option<Place>)
     ensures { state.new ≡ written I.instance S.record_of made place state.old }
 {
@@ -31,10 +31,14 @@ fn write<I: Object, S: ToRecord>(state: &mut [u8], made: Option<Write<I, S>>, pl
     let Some(i) = write_place(w.instance.instance(), place, n) else {
         return;
     };
-    octets::put_group::<RECORD_SIZE>(state, i, &w.state.to_record());
+    let start = i * RECORD_SIZE;
+    let end = start + RECORD_SIZE;
+    w.state.write_record(&mut state[start..end]);
 }
 
+// It is inlined where an operation's outcome is applied (`done`), since most write one record, and which one is known there.
 #[tactic(auto, unfolding(crate::specs::Places::applied))]
+#[inline(always)]
 pub fn apply_outcome(state: &mut [u8], o: Outcome, at: Places)
     ensures { state.new ≡ applied o at state.old }
 {

@@ -23,6 +23,9 @@ pub const LARGEST_JOURNAL: usize = 65520;
 // The largest count.
 pub const LARGEST_COUNT: u32 = 4294967295;
 
+// One above the largest number of four bytes, by which tags turn over.
+pub const MODULUS: u64 = 4294967296;
+
 pub const SECONDS_OF_MINUTE: u32 = 60;
 
 // The end of a day: the largest minute of a rule.

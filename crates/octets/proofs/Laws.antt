@@ -2,16 +2,18 @@
 use mathlib.Core.Path.{◌≡◌, refl, sym, ap, ◌∙◌}
 use mathlib.Core.Logic.{◌↔◌}
 use mathlib.Core.List.{List, [], ◌∷◌, ◌++◌, append_assoc}
-use mathlib.Core.Bool.{Bool, true, false, ◌&&◌}
+use mathlib.Core.Bool.{Bool, true, false, ◌&&◌, and_assoc, and-true}
 use Prim.Native.Nat.{ℕ, zero, suc, ◌+◌, ◌*◌, ◌/◌, ◌%◌, ◌^◌, ◌≤◌, ◌<◌}
 use native.Mathlib.Nat.{le_refl, add-zero, add-suc, zero-add, add_assoc, mul_assoc, pow-suc, pow-succ', div-one, div-add-mod', div-lt_iff_lt-mul, mod-lt, one-le-pow}
 use native.Mathlib.Numerals.{add-one, one-add}
 use native.Mathlib.Omega.{arith}
+use borrow.Author.Tests.{eqb-false}
 use lib.Arith.{digits_div, digits_mod, digits_lt}
 use lib.Dec.{lit<, eqb}
 use lib.ListN.{length, take, drop, get_or, set, length-append, length-take, length-drop}
 use lib.Seq.{length-take-le, take-take, take-append-le, set_split, drop-cons, get_or_at, get_or-take, get_or-drop}
 use lib.Pointwise.{pointwise, bytes_decides}
+use Rattle.std.specs.List.{fold, zip}
 use Rattle.std.proofs.lemmas.Bool.{false_from_ne_true}
 use Rattle.std.proofs.lemmas.Slice.{drop-append-drop}
 use Rattle.octets.specs.Octets.{field, digits, put, same}
@@ -166,3 +168,19 @@ same_refl a = (same_eq a a).1 refl
 -- The test fails where the lists are not equal.
 pub same_differs : (a b : List ℕ) → (a ≡ b → ⊥) → same a b ≡ false
 same_differs a b h = false_from_ne_true (same a b) (λ t. h ((same_eq a b).0 t))
+
+-- Byte by byte, of two runs of one length, with what stands before as it may be.
+same_from : (t : Bool) (a b : List ℕ) → length a ≡ length b → fold (λ (all : Bool) (p : ℕ × ℕ). all && eqb p.0 p.1) t (zip a b) ≡ t && same a b
+unfolding same
+same_from t [] [] h = sym (and-true t)
+same_from t [] (y ∷ ys) h = absurd (omega (arith, h))
+same_from t (x ∷ xs) [] h = absurd (omega (arith, h))
+same_from t (x ∷ xs) (y ∷ ys) h = same_from (t && eqb x y) xs ys (omega (arith, h)) ∙ and_assoc t (eqb x y) (same xs ys)
+
+-- The test holds of two runs of one length where the bytes of each pair are the same.
+pub same_pairs : (a b : List ℕ) → length a ≡ length b → fold (λ (all : Bool) (p : ℕ × ℕ). all && eqb p.0 p.1) true (zip a b) ≡ same a b
+same_pairs a b h = same_from true a b h
+
+-- Runs of two lengths are not the same.
+pub same_lengths : (a b : List ℕ) → eqb (length a) (length b) ≡ false → eqb (length a) (length b) ≡ same a b
+same_lengths a b h = h ∙ sym (same_differs a b (λ e. eqb-false (length a) (length b) h (ap length e)))

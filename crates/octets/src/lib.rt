@@ -170,10 +170,11 @@ pub fn put_each<C: Chunk<T, N>, T, const N: usize>(bytes: &mut [u8], items: &[T]
     }
 }
 
-// Whether two runs of bytes are the same: `==`, in the words of the definitions, kept for what it promises.
-#[tactic(auto, using(crate::proofs::Laws::pointwise_same))]
+// Whether two runs of bytes are the same. Inlined, and with no early end: of eight bytes it is then one comparison, where `==` of slices is a call.
+#[tactic(auto, using(crate::proofs::Laws::same_lengths))]
+#[inline(always)]
 pub fn same_bytes(a: &[u8], b: &[u8]) -> bool
     ensures { result ≡ same a.now b.now }
 {
-    a == b
+    a.len() == b.len() && a.iter().zip(b).fold(true, |all, (x, y)| all & (x == y))
 }

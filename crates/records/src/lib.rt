@@ -2,13 +2,13 @@
 // asks, whose contract is the field's definition, and written by one.
 #![tactic(auto)]
 
-ghost use Rattle.std.specs.Prelude.{◌≡◌, ◌+◌, ◌≤◌, ℕ, List};
+ghost use Rattle.std.specs.Prelude.{◌≡◌, ◌+◌, ◌≤◌, ℕ, List, length};
 ghost use Rattle.octets.specs.Octets.{field};
 ghost use Rattle.model.specs.Site.{reference};
 
 pub mod fields; // fields.rt: the numbers at the offsets of a record, or of none
 pub mod site; // site.rt: the fields of site records
-pub mod state; // state.rt: the fields of state records, fresh ones, and their bytes
+pub mod state; // state.rt: the fields of state records, fresh ones, and their writers
 pub mod entry; // entry.rt: entries and answers
 
 use model::numbers::RECORD_SIZE;
@@ -43,6 +43,17 @@ pub trait FromPart: Copy {
 pub trait ToRecord: Copy {
     ghost record_of: { Self → List ℕ };
 
+    // Writes the record in its part of a state, which is lent to it, all of it.
+    fn write_record(self, record: &mut [u8])
+        requires { length record.old ≡ 32 }
+        ensures { record.new ≡ record_of self };
+
+    // The record by itself, by the same writer.
     fn to_record(self) -> Record
-        ensures { result ≡ record_of self };
+        ensures { result ≡ record_of self }
+    {
+        let mut record = [0; RECORD_SIZE];
+        self.write_record(&mut record);
+        record
+    }
 }

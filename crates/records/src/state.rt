@@ -1,11 +1,12 @@
-// The fields of state records: read, fresh, and as bytes.
+// The fields of state records: read, fresh, and written. A writer is lent the record's own 32 bytes, and writes all of them.
 #![tactic(auto, unfolding(model::specs::State::point_state_of, model::specs::State::credential_state_of, model::specs::State::fresh_point, model::specs::State::fresh_with))]
 
-ghost use Rattle.std.specs.Prelude.{◌≡◌};
+ghost use Rattle.std.specs.Prelude.{◌≡◌, length};
+ghost use Rattle.model.specs.Words.{zeros};
 ghost use Rattle.model.specs.State as State;
 ghost use Rattle.model.specs.State.{zone_bytes, point_state_of, point_bytes, credential_state_of, credential_bytes, fresh_point, fresh_with};
 
-use super::{FromPart, Part, Record, ToRecord};
+use super::{FromPart, Part, ToRecord};
 use model::numbers::{NEVER, RECORD_SIZE};
 use model::{CredentialId, CredentialState, PointId, PointState, ZoneId, layout};
 use octets::Number;
@@ -126,17 +127,24 @@ pub fn fresh_credential(uses: u16, days: u16, disable: u8) -> CredentialState
     }
 }
 
-// ── as bytes
+// ── written
+
+// What no field fills.
+pub fn write_zeros(part: &mut [u8])
+    requires { length part.old ≡ 32 }
+    ensures { part.new ≡ zeros 32 }
+{
+    part.copy_from_slice(&[0; RECORD_SIZE]);
+}
 
 // A zone's count.
 impl ToRecord for u32 {
     ghost record_of = { zone_bytes };
 
     #[tactic(auto, unfolding(octets::specs::Octets::put, octets::specs::Octets::digits, model::specs::State::zone_bytes))]
-    fn to_record(self) -> Record {
-        let mut part = [0; RECORD_SIZE];
-        self.put(&mut part, layout::ZONE_STATE_COUNT);
-        part
+    fn write_record(self, record: &mut [u8]) {
+        write_zeros(record);
+        self.put(record, layout::ZONE_STATE_COUNT);
     }
 }
 
@@ -144,20 +152,19 @@ impl ToRecord for PointState {
     ghost record_of = { point_bytes };
 
     #[tactic(auto, unfolding(octets::specs::Octets::put, octets::specs::Octets::digits, model::specs::State::point_bytes))]
-    fn to_record(self) -> Record {
-        let mut part = [0; RECORD_SIZE];
-        self.tag.put(&mut part, layout::POINT_STATE_TAG);
-        self.failures.put(&mut part, layout::POINT_STATE_FAILURES);
-        u8::from(self.locked).put(&mut part, layout::POINT_STATE_LOCKED);
-        self.lock_time.put(&mut part, layout::POINT_STATE_LOCK_TIME);
+    fn write_record(self, record: &mut [u8]) {
+        write_zeros(record);
+        self.tag.put(record, layout::POINT_STATE_TAG);
+        self.failures.put(record, layout::POINT_STATE_FAILURES);
+        u8::from(self.locked).put(record, layout::POINT_STATE_LOCKED);
+        self.lock_time.put(record, layout::POINT_STATE_LOCK_TIME);
         self.first_failure
-            .put(&mut part, layout::POINT_STATE_FIRST_FAILURE);
+            .put(record, layout::POINT_STATE_FIRST_FAILURE);
         self.waiting_credential
             .0
-            .put(&mut part, layout::POINT_STATE_WAITING_CREDENTIAL);
+            .put(record, layout::POINT_STATE_WAITING_CREDENTIAL);
         self.waiting_since
-            .put(&mut part, layout::POINT_STATE_WAITING_SINCE);
-        part
+            .put(record, layout::POINT_STATE_WAITING_SINCE);
     }
 }
 
@@ -165,26 +172,22 @@ impl ToRecord for CredentialState {
     ghost record_of = { credential_bytes };
 
     #[tactic(auto, unfolding(octets::specs::Octets::put, octets::specs::Octets::digits, model::specs::State::credential_bytes))]
-    fn to_record(self) -> Record {
-        let mut part = [0; RECORD_SIZE];
-        self.uses.put(&mut part, layout::CREDENTIAL_STATE_USES);
-        self.days.put(&mut part, layout::CREDENTIAL_STATE_DAYS);
-        self.last_use
-            .put(&mut part, layout::CREDENTIAL_STATE_LAST_USE);
-        self.zone.0.put(&mut part, layout::CREDENTIAL_STATE_ZONE);
-        self.entered
-            .put(&mut part, layout::CREDENTIAL_STATE_ENTERED);
+    fn write_record(self, record: &mut [u8]) {
+        write_zeros(record);
+        self.uses.put(record, layout::CREDENTIAL_STATE_USES);
+        self.days.put(record, layout::CREDENTIAL_STATE_DAYS);
+        self.last_use.put(record, layout::CREDENTIAL_STATE_LAST_USE);
+        self.zone.0.put(record, layout::CREDENTIAL_STATE_ZONE);
+        self.entered.put(record, layout::CREDENTIAL_STATE_ENTERED);
         self.last_event
-            .put(&mut part, layout::CREDENTIAL_STATE_LAST_EVENT);
-        self.disable
-            .put(&mut part, layout::CREDENTIAL_STATE_DISABLE);
+            .put(record, layout::CREDENTIAL_STATE_LAST_EVENT);
+        self.disable.put(record, layout::CREDENTIAL_STATE_DISABLE);
         self.wrong_tries
-            .put(&mut part, layout::CREDENTIAL_STATE_WRONG_TRIES);
+            .put(record, layout::CREDENTIAL_STATE_WRONG_TRIES);
         self.last_point
             .0
-            .put(&mut part, layout::CREDENTIAL_STATE_LAST_POINT);
+            .put(record, layout::CREDENTIAL_STATE_LAST_POINT);
         self.last_grant
-            .put(&mut part, layout::CREDENTIAL_STATE_LAST_GRANT);
-        part
+            .put(record, layout::CREDENTIAL_STATE_LAST_GRANT);
     }
 }

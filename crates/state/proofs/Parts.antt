@@ -1,13 +1,13 @@
 -- Records of a state written one after the other, and where those of the longer state stand.
 use Rattle.std.proofs.lemmas.List.{length-map}
-use Rattle.std.specs.Prelude.{if◌then◌else◌, Option, Some, None}
-use Prim.Native.Nat.{ℕ, zero, suc, ◌+◌, ◌*◌, ◌/◌, ◌<◌, ◌≤◌}
+use Prim.Native.Nat.{ℕ, zero, suc, ◌+◌, ◌-◌, ◌*◌, ◌/◌, ◌<◌, ◌≤◌}
 use native.Mathlib.Omega.{arith}
 use mathlib.Core.Path.{◌≡◌, refl, sym, ap, ◌∙◌}
-use mathlib.Core.List.{List, [], ◌∷◌, append-nil, map, flatten}
+use mathlib.Core.List.{List, [], ◌∷◌, ◌++◌, append-nil, map, flatten}
 use mathlib.Core.Bool.{Bool, true, false}
-use lib.Seq.{take_all}
-use lib.ListN.{length, drop, get_or, get_or-map, drop_of_length-le}
+use native.Mathlib.Nat.{add-sub_cancel_left}
+use lib.Seq.{take_all, drop-drop}
+use lib.ListN.{length, take, drop, get_or, get_or-map, drop_of_length-le}
 use Rattle.octets.specs.Octets.{groups, with_part}
 use Rattle.octets.proofs.Written.{written, written_start, written_step, written_end}
 use Rattle.model.specs.Words.{keep, zeros}
@@ -19,6 +19,12 @@ use Rattle.model.proofs.Laws.{only, sites_only}
 use Rattle.model.proofs.Flat.{sites_paired, sites_panel, fresh_keep}
 use Rattle.model.proofs.StatePlaces.{passed, next_passed, passed_at, place_within, panel_at}
 use Rattle.index.proofs.Building.{length_records}
+
+-- A part that was lent to be written: the list with what it came back as.
+pub part_back : (size i : ℕ) (part back s : List ℕ) → back ≡ part
+    → take (i * size) s ++ (back ++ drop (i * size + size - i * size) (drop (i * size) s)) ≡ with_part size i part s
+unfolding with_part
+part_back size i part back s e = rw (e, add-sub_cancel_left (i * size) size, drop-drop size (i * size) s)
 
 -- ── a state written from the elements that pass a test, a record of each
 
@@ -66,15 +72,6 @@ module _ {A : Type 0} (q : A → Bool) (f : A → List ℕ) (xs : List A) (room 
 pub fresh_joined : (site : List ℕ) → flatten (map fresh_record (keep kept (records site))) ≡ fresh site
 unfolding fresh
 fresh_joined site = fresh_keep kept (λ s h. h) (records site)
-
--- What is given of a record: its fresh record where it has one.
-pub given : (s : List ℕ) (o : Option (List ℕ)) → o ≡ (if kept s then Some (fresh_record s) else None) →
-    ((t : List ℕ) → o ≡ Some t → (kept s ≡ true) × (t ≡ fresh_record s)) × (o ≡ None → kept s ≡ false)
-given s o e = go (kept s) e
-  where
-    go : (c : Bool) → o ≡ (if c then Some (fresh_record s) else None) → ((t : List ℕ) → o ≡ Some t → (c ≡ true) × (t ≡ fresh_record s)) × (o ≡ None → c ≡ false)
-    go true e = ((λ t g. (refl, cc)), (λ g. cc))
-    go false e = ((λ t g. cc), (λ g. refl))
 
 pub state_fits : (site state : List ℕ) → length state ≡ state_length site → length (keep kept (records site)) * 32 ≡ length state
 unfolding state_length

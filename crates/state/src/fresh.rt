@@ -1,27 +1,28 @@
 // The fresh state of a site: a state record for each zone, point and credential, in site sequence.
-#![tactic(auto, unfolding(model::specs::State::kept, model::specs::State::fresh_record, model::specs::State::fresh_credential))]
+#![tactic(auto, unfolding(octets::specs::Octets::digits, model::specs::State::kept, model::specs::State::zone_bytes, model::specs::State::fresh_record, model::specs::State::fresh_credential))]
 
-ghost use Rattle.std.specs.Prelude.{◌≡◌, length, if◌then◌else◌, Some, None};
+ghost use Rattle.std.specs.Prelude.{◌≡◌, true, length};
 ghost use Rattle.model.specs.State.{kept, fresh_record, fresh, state_length};
 
 use model::RecordKind;
 use model::numbers::RECORD_SIZE;
-use records::site::{days_given, disable_given, record_kind_of, uses_given};
+use records::site::{days_given, disable_given, is_kept, record_kind_of, uses_given};
 use records::state::{fresh_credential, fresh_point};
 use records::{Record, ToRecord};
 
-// The state record of a site record, where it has one.
-fn fresh_record(s: &Record) -> Option<Record>
-    ensures { result ≡ (if kept s.now then Some (fresh_record s.now) else None) }
+// The state record of a site record that has one, in the part that is lent for it.
+fn write_fresh(part: &mut [u8], s: &Record)
+    requires part_len { length part.old ≡ 32 }
+    requires has_state { kept s.now ≡ true }
+    ensures { part.new ≡ fresh_record s.now }
 {
-    match record_kind_of(s)? {
-        RecordKind::OfZone => Some([0; RECORD_SIZE]),
-        RecordKind::OfPoint => Some(fresh_point().to_record()),
-        RecordKind::OfCredential => {
-            let c = fresh_credential(uses_given(s), days_given(s), disable_given(s));
-            Some(c.to_record())
+    match record_kind_of(s) {
+        Some(RecordKind::OfZone) => 0u32.write_record(part),
+        Some(RecordKind::OfPoint) => fresh_point().write_record(part),
+        Some(RecordKind::OfCredential) => {
+            fresh_credential(uses_given(s), days_given(s), disable_given(s)).write_record(part)
         }
-        RecordKind::OfRule | RecordKind::OfFactor => None,
+        Some(RecordKind::OfRule | RecordKind::OfFactor) | None => unreachable!(),
     }
 }
 
@@ -31,8 +32,10 @@ pub fn write_fresh_state(site: &[u8], state: &mut [u8])
 {
     let mut place = 0;
     for s in index::records(site) {
-        if let Some(t) = fresh_record(s) {
-            octets::put_group(state, place, &t);
+        if is_kept(s) {
+            let start = place * RECORD_SIZE;
+            let end = start + RECORD_SIZE;
+            write_fresh(&mut state[start..end], s);
             place += 1;
         }
     }

@@ -1,5 +1,5 @@
 -- By induction on the entries: each turn works the next one.
-use Rattle.std.proofs.Common.{length, map, refl, ◌∙◌, ap₂, arith}
+use Rattle.std.proofs.Common.{rules, length, map, refl, ◌∙◌, ap₂, arith}
 use Rattle.std.proofs.lemmas.List.{length_push}
 use Rattle.octets.specs.Octets.{with_part}
 use Rattle.model.specs.State.{panel}
@@ -12,6 +12,9 @@ pub loop-k-init : goal.loop-k-init
 loop-k-init c =
     let a = c.args in
     done_start a.site.now (map entry_of (entries a.journal.now)) (panel a.site.now a.state.now) a.answers.now a.state.now c.requires.state_len refl
+
+pub loop-k-init-derived : goal.loop-k-init-derived
+loop-k-init-derived c = search (rules, length_entries)
 
 pub put_group-requires : goal.put_group-requires
 put_group-requires c =

@@ -1,21 +1,22 @@
 -- By the laws of a state written from the elements that pass a test.
-use Rattle.std.proofs.Common.{arith, ◌∙◌, ap, [], length}
+use Rattle.std.proofs.Common.{arith, ◌∙◌, sym, ap, [], length}
 use Rattle.model.specs.Site.{records}
 use Rattle.model.specs.State.{kept, fresh_record}
-use Rattle.state.proofs.Parts.{given, state_fits, fresh_joined, put_start, put_other, put_asks, put_more, put_all}
+use Rattle.state.proofs.Parts.{state_fits, fresh_joined, put_start, put_other, put_asks, put_more, put_all, part_back}
 use Rattle.state.proofs.fresh.write_fresh_state.Goals as goal
-use Rattle.state.proofs.fresh.write_fresh_state.Goals.{in-Some, in_default}
+use Rattle.state.proofs.fresh.write_fresh_state.Goals.{then-is_kept, else-is_kept}
 
 pub loop-s-init : goal.loop-s-init
 loop-s-init c = put_start kept fresh_record (records c.args.site.now) c.args.state.now
 
-pub put_group-requires : goal.put_group-requires
-put_group-requires c =
+pub slice_bounds-write_fresh-end : goal.slice_bounds-write_fresh-end
+slice_bounds-write_fresh-end c =
     let site = c.args.site.now in
     let l = c.loop-s in
-    let g = given _ _ (rw c.records-s-items.ensures at c.fresh_record.ensures) in
-    put_asks kept fresh_record (records site) c.args.state.now (state_fits site c.args.state.now c.requires) l.s-index l.place [] l.state l.invariant
-    (rw c.records-s-items.ensures at c.loop-s-test.true) l.auto.state (g.0 c.in-Some.t c.in-Some.is).0
+    let k = rw c.records-s-items.ensures at (sym c.is_kept.ensures ∙ c.if-is_kept.true) in
+    let asks = put_asks kept fresh_record (records site) c.args.state.now (state_fits site c.args.state.now c.requires) l.s-index l.place [] l.state l.invariant
+    (rw c.records-s-items.ensures at c.loop-s-test.true) l.auto.state k in
+    omega (arith, asks.1.1)
 
 pub loop-s-preserved : goal.loop-s-preserved
 loop-s-preserved c =
@@ -23,14 +24,15 @@ loop-s-preserved c =
     let l = c.loop-s in
     let fits = state_fits site c.args.state.now c.requires in
     let h = rw c.records-s-items.ensures at c.loop-s-test.true in
-    let g = given _ _ (rw c.records-s-items.ensures at c.fresh_record.ensures) in
-    elim c.match-fresh_record.branch [
-      | in-Some w ↦
-          let t = g.0 w.in-Some.t w.in-Some.is in
-          rw w.place-is (put_more kept fresh_record (records site) c.args.state.now fits l.s-index l.place [] l.state l.invariant h l.auto.state t.0
-          c.match-fresh_record.state (w.state-is ∙ rw t.1 at w.put_group.ensures))
-      | in_default w ↦
-          rw (w.place-is, w.state-is) (put_other kept fresh_record (records site) c.args.state.now fits l.s-index l.place [] l.state l.invariant h (g.1 w.in_default.is))
+    elim c.if-is_kept.branch [
+      | then-is_kept w ↦
+          let k = rw c.records-s-items.ensures at (sym c.is_kept.ensures ∙ w.if-is_kept.true) in
+          rw w.place-is (put_more kept fresh_record (records site) c.args.state.now fits l.s-index l.place [] l.state l.invariant h l.auto.state k
+          c.if-is_kept.state
+          (w.state-is ∙ part_back 32 l.place _ _ l.state (w.write_fresh.ensures ∙ rw c.records-s-items.ensures)))
+      | else-is_kept w ↦
+          let k = rw c.records-s-items.ensures at (sym c.is_kept.ensures ∙ w.if-is_kept.false) in
+          rw (w.place-is, w.state-is) (put_other kept fresh_record (records site) c.args.state.now fits l.s-index l.place [] l.state l.invariant h k)
     ]
 
 pub returns : goal.returns
