@@ -72,12 +72,12 @@ worked_at (Some SetService) place e site state =
     at_object (service_outcome e (point_state_of (state_part place state)) (count_to place site state)) place
 worked_at None place e site state = at_object (refuse n.refused_form) place
 
--- The same of an operation and where its object stands, or of why there is neither.
+-- What is decided of an operation and where its object stands, or why there is neither.
 abbrev pub decided_at : Result (Operation × Place) EntryRefusal → Entry → List ℕ → List ℕ → Result Decided EntryRefusal
 decided_at (Ok (o, p)) e site state = Ok (worked_at (Some o) (Some p) e site state)
 decided_at (Err r) e site state = Err r
 
--- The same, or refusal 8 where there is no object.
+-- The operation at its object, or refusal 8 where there is no object.
 abbrev pub found_at : Option Operation → Option Place → Entry → List ℕ → List ℕ → Decided
 found_at o (Some p) e site state = worked_at o (Some p) e site state
 found_at o None e site state = refused_as NoObject

@@ -1,5 +1,5 @@
 // One entry: its form, its object, what it looks at, its outcome; then its records are written.
-ghost use Rattle.std.specs.Prelude.{◌≡◌, ℕ, List, Option, Some, None, length};
+ghost use Rattle.std.specs.Prelude.{◌≡◌, ℕ, List, Option, Some, length};
 ghost use Rattle.model.specs.Site.{point_of};
 ghost use Rattle.model.specs.State.{panel, state_length, state_of, point_state_of};
 ghost use Rattle.model.specs.Step.{service_outcome, entry_outcome, apply};

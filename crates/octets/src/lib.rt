@@ -170,7 +170,8 @@ pub fn put_each<C: Chunk<T, N>, T, const N: usize>(bytes: &mut [u8], items: &[T]
     }
 }
 
-// Whether two runs of bytes are the same. Inlined, and with no early end: of eight bytes it is then one comparison, where `==` of slices is a call.
+// Whether two runs of bytes are the same. Inlined, and with no early end: eight bytes are then joined without a branch and tested once, where `==` of slices
+// is a call.
 #[tactic(auto, using(crate::proofs::Laws::same_lengths))]
 #[inline(always)]
 pub fn same_bytes(a: &[u8], b: &[u8]) -> bool

@@ -44,16 +44,16 @@ pub trait ToRecord: Copy {
     ghost record_of: { Self → List ℕ };
 
     // Writes the record in its part of a state, which is lent to it, all of it.
-    fn write_record(self, record: &mut [u8])
-        requires { length record.old ≡ 32 }
-        ensures { record.new ≡ record_of self };
+    fn write_record(self, bytes: &mut [u8])
+        requires { length bytes.old ≡ 32 }
+        ensures { bytes.new ≡ record_of self };
 
     // The record by itself, by the same writer.
     fn to_record(self) -> Record
         ensures { result ≡ record_of self }
     {
-        let mut record = [0; RECORD_SIZE];
-        self.write_record(&mut record);
-        record
+        let mut bytes = [0; RECORD_SIZE];
+        self.write_record(&mut bytes);
+        bytes
     }
 }

@@ -142,9 +142,9 @@ impl ToRecord for u32 {
     ghost record_of = { zone_bytes };
 
     #[tactic(auto, unfolding(octets::specs::Octets::put, octets::specs::Octets::digits, model::specs::State::zone_bytes))]
-    fn write_record(self, record: &mut [u8]) {
-        write_zeros(record);
-        self.put(record, layout::ZONE_STATE_COUNT);
+    fn write_record(self, bytes: &mut [u8]) {
+        write_zeros(bytes);
+        self.put(bytes, layout::ZONE_STATE_COUNT);
     }
 }
 
@@ -152,19 +152,19 @@ impl ToRecord for PointState {
     ghost record_of = { point_bytes };
 
     #[tactic(auto, unfolding(octets::specs::Octets::put, octets::specs::Octets::digits, model::specs::State::point_bytes))]
-    fn write_record(self, record: &mut [u8]) {
-        write_zeros(record);
-        self.tag.put(record, layout::POINT_STATE_TAG);
-        self.failures.put(record, layout::POINT_STATE_FAILURES);
-        u8::from(self.locked).put(record, layout::POINT_STATE_LOCKED);
-        self.lock_time.put(record, layout::POINT_STATE_LOCK_TIME);
+    fn write_record(self, bytes: &mut [u8]) {
+        write_zeros(bytes);
+        self.tag.put(bytes, layout::POINT_STATE_TAG);
+        self.failures.put(bytes, layout::POINT_STATE_FAILURES);
+        u8::from(self.locked).put(bytes, layout::POINT_STATE_LOCKED);
+        self.lock_time.put(bytes, layout::POINT_STATE_LOCK_TIME);
         self.first_failure
-            .put(record, layout::POINT_STATE_FIRST_FAILURE);
+            .put(bytes, layout::POINT_STATE_FIRST_FAILURE);
         self.waiting_credential
             .0
-            .put(record, layout::POINT_STATE_WAITING_CREDENTIAL);
+            .put(bytes, layout::POINT_STATE_WAITING_CREDENTIAL);
         self.waiting_since
-            .put(record, layout::POINT_STATE_WAITING_SINCE);
+            .put(bytes, layout::POINT_STATE_WAITING_SINCE);
     }
 }
 
@@ -172,22 +172,22 @@ impl ToRecord for CredentialState {
     ghost record_of = { credential_bytes };
 
     #[tactic(auto, unfolding(octets::specs::Octets::put, octets::specs::Octets::digits, model::specs::State::credential_bytes))]
-    fn write_record(self, record: &mut [u8]) {
-        write_zeros(record);
-        self.uses.put(record, layout::CREDENTIAL_STATE_USES);
-        self.days.put(record, layout::CREDENTIAL_STATE_DAYS);
-        self.last_use.put(record, layout::CREDENTIAL_STATE_LAST_USE);
-        self.zone.0.put(record, layout::CREDENTIAL_STATE_ZONE);
-        self.entered.put(record, layout::CREDENTIAL_STATE_ENTERED);
+    fn write_record(self, bytes: &mut [u8]) {
+        write_zeros(bytes);
+        self.uses.put(bytes, layout::CREDENTIAL_STATE_USES);
+        self.days.put(bytes, layout::CREDENTIAL_STATE_DAYS);
+        self.last_use.put(bytes, layout::CREDENTIAL_STATE_LAST_USE);
+        self.zone.0.put(bytes, layout::CREDENTIAL_STATE_ZONE);
+        self.entered.put(bytes, layout::CREDENTIAL_STATE_ENTERED);
         self.last_event
-            .put(record, layout::CREDENTIAL_STATE_LAST_EVENT);
-        self.disable.put(record, layout::CREDENTIAL_STATE_DISABLE);
+            .put(bytes, layout::CREDENTIAL_STATE_LAST_EVENT);
+        self.disable.put(bytes, layout::CREDENTIAL_STATE_DISABLE);
         self.wrong_tries
-            .put(record, layout::CREDENTIAL_STATE_WRONG_TRIES);
+            .put(bytes, layout::CREDENTIAL_STATE_WRONG_TRIES);
         self.last_point
             .0
-            .put(record, layout::CREDENTIAL_STATE_LAST_POINT);
+            .put(bytes, layout::CREDENTIAL_STATE_LAST_POINT);
         self.last_grant
-            .put(record, layout::CREDENTIAL_STATE_LAST_GRANT);
+            .put(bytes, layout::CREDENTIAL_STATE_LAST_GRANT);
     }
 }
